@@ -1,0 +1,81 @@
+-- The test of lawful rows decides what lawful means.
+use mathlib.Core.Path.{_≡_, refl, sym, ap, subst, _∙_}
+use mathlib.Core.Bool.{Bool, true, false, not, _&&_, _||_}
+use mathlib.Core.List.{List, [], _∷_}
+use mathlib.Core.Logic.{_⊎_, inl, inr}
+use Prim.Native.Nat.{ℕ, zero, suc, _+_, _≤_, _<_}
+use native.Mathlib.Omega.{arith}
+use lib.Dec.{leb, eqb}
+use lib.IntN.{ℤ, pos, negsuc}
+use lib.ListN.{getD}
+use Rattle.std.specs.Orderings.{Decides}
+use Rattle.std.proofs.shelf.Signed.{ints}
+use Rattle.std.proofs.shelf.Tests.{and-parts, and-from, cases-lt, le-leb}
+use Rattle.std.proofs.shelf.Ways.{tells, decides-and, decides-like}
+use Rattle.rows.specs.declared.row.Row.{Row}
+use Rattle.rows.specs.Lawful.{Moderate, Lawful, is-moderate, is-zero, may-stand, all-may-stand, marks-known, is-lawful}
+
+pub moderate-decides : (z : ℤ) → Decides (is-moderate z) (Moderate z)
+moderate-decides z = (λ h. record { low = grind (arith, ints); high = grind (arith, ints) }, λ h. grind (arith, ints))
+
+zero-decides : (z : ℤ) → Decides (is-zero z) (z ≡ pos 0)
+zero-decides (pos n) = (λ h. ap pos (grind (arith, tells)), λ e. grind (arith, tells))
+zero-decides (negsuc n) = (λ h. grind arith, λ e. let z : _≡_ {A = ℕ} 0 1 = cc in absurd (omega arith))
+
+-- absent where c is above n
+absent-decides : (n c : ℕ) (z : ℤ) → Decides (leb c n || is-zero z) (n < c → z ≡ pos 0)
+absent-decides n c z =
+    let d = zero-decides z in (
+      λ h l. d .0 (grind (arith, tells)),
+      λ f. elim (cases-lt n c) [ inl l ↦ (let e = d .1 (f l) in grind arith) | inr g ↦ (let e = le-leb c n g in grind arith) ],
+    )
+
+stand-decides : (n c : ℕ) (z : ℤ) → Decides (may-stand n c z) (Moderate z × (n < c → z ≡ pos 0))
+stand-decides n c z = decides-and (is-moderate z) (leb c n || is-zero z) (moderate-decides z) (absent-decides n c z)
+
+-- what the coefficients have to be, from number c on
+abbrev Stand : ℕ → ℕ → List ℤ → Type 0
+Stand n c zs = (k : ℕ) → Moderate (getD zs k (pos 0)) × (n < c + k → getD zs k (pos 0) ≡ pos 0)
+
+moderate-zero : Moderate (pos 0)
+moderate-zero = record { low = omega (arith, ints); high = omega (arith, ints) }
+
+all-stand-means : (n c : ℕ) (zs : List ℤ) → all-may-stand n c zs ≡ true → Stand n c zs
+all-stand-means n c [] h k = (moderate-zero, λ l. refl)
+all-stand-means n c (z ∷ zs) h zero =
+    let p = and-parts (may-stand n c z) (all-may-stand n (suc c) zs) h in
+    let q = stand-decides n c z .0 (p .0) in
+    (q .0, λ l. q .1 (omega arith))
+all-stand-means n c (z ∷ zs) h (suc k) =
+    let p = and-parts (may-stand n c z) (all-may-stand n (suc c) zs) h in
+    let q = all-stand-means n (suc c) zs (p .1) k in
+    (q .0, λ l. q .1 (omega arith))
+
+all-stand-tests : (n c : ℕ) (zs : List ℤ) → Stand n c zs → all-may-stand n c zs ≡ true
+all-stand-tests n c [] h = refl
+all-stand-tests n c (z ∷ zs) h =
+    and-from (may-stand n c z) (all-may-stand n (suc c) zs)
+    (stand-decides n c z .1 (h 0 .0, λ l. h 0 .1 (omega arith)))
+    (all-stand-tests n (suc c) zs (λ k. (h (suc k) .0, λ l. h (suc k) .1 (omega arith))))
+
+pub lawful-decides : (m n : ℕ) (r : Row) → Decides (is-lawful m n r) (Lawful m n r)
+unfolding is-lawful
+lawful-decides m n r = (
+  λ h.
+      let p = and-parts (marks-known m r) (all-may-stand n 0 (r .t)) h in
+      let q = all-stand-means n 0 (r .t) (p .1) in
+      record {
+        i-known = grind (arith, tells);
+        j-known = grind (arith, tells);
+        apart = λ e. grind (arith, tells);
+        moderate = λ c. q c .0;
+        absent = λ c l. q c .1 (omega arith);
+      },
+  λ h.
+      and-from (marks-known m r) (all-may-stand n 0 (r .t))
+      (marks-tests (r .i) (r .j) (h .i-known) (h .j-known) (h .apart))
+      (all-stand-tests n 0 (r .t) (λ c. (h .moderate c, λ l. h .absent c (omega arith)))),
+)
+  where
+    marks-tests : (i j : ℕ) → i ≤ m → j ≤ m → (i ≡ j → i ≡ 0) → (leb i m && (leb j m && (not (eqb i j) || eqb i 0))) ≡ true
+    marks-tests i j a b f = grind (arith, tells)

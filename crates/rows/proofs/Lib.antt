@@ -1,0 +1,6 @@
+pub mod Asked
+pub mod Points
+pub mod Lawful
+pub mod Moves
+pub mod Valuations
+pub mod Forcing

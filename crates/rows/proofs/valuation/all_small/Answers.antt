@@ -1,0 +1,30 @@
+use native.Mathlib.Omega.{arith}
+use mathlib.Core.Path.{_≡_, refl}
+use mathlib.Core.Bool.{true, _&&_}
+use mathlib.Core.List.{List}
+use Prim.Native.Nat.{ℕ, _+_, _<_, _≤_}
+use lib.Dec.{leb}
+use lib.ListN.{length, getD, drop}
+use Rattle.std.proofs.shelf.Lists.{at-drop-more, at-drop-all}
+use Rattle.std.proofs.shelf.Tests.{le-leb, lt-leb}
+use Rattle.rows.specs.Valuations.{all-small}
+use Rattle.rows.proofs.Asked.{asked-no, asked-more, asked-all}
+use Rattle.rows.proofs.valuation.all_small.Needs as need
+
+more : (ns : List ℕ) (c : ℕ) → c < length ns → all-small (drop c ns) ≡ (leb (getD ns c 0) 1000000000 && all-small (drop (c + 1) ns))
+more ns c h = at-drop-more all-small ns c 0 h
+
+pub returns-then-v-gt-LARGEST-VALUE : need.returns-then-v-gt-LARGEST-VALUE
+returns-then-v-gt-LARGEST-VALUE c =
+    let ns = c .args .values .now in
+    let k = c .loop-v .v-index in
+    asked-no _ _ _ _ _ (more ns k (omega arith)) (c .loop-v .inv) refl (lt-leb (getD ns k 0) 1000000000 (c .if-v-gt-LARGEST-VALUE .taken))
+
+pub loop-v-again : need.loop-v-again
+loop-v-again c =
+    let ns = c .args .values .now in
+    let k = c .loop-v .v-index in
+    asked-more _ _ _ _ _ (more ns k (omega arith)) (c .loop-v .inv) refl (le-leb (getD ns k 0) 1000000000 (c .if-v-gt-LARGEST-VALUE .left))
+
+pub returns : need.returns
+returns c = asked-all _ _ (at-drop-all all-small (c .args .values .now) (c .loop-v .v-index) (omega arith)) (c .loop-v .inv)

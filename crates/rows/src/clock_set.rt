@@ -1,0 +1,30 @@
+ghost use mathlib.Core.Path.{_≡_};
+ghost use Rattle.rows.specs.Moves.{has, mark-before-reset};
+
+/// The most clocks that a model may have.
+pub const CLOCKS: u8 = 6;
+
+/// A set of clocks: place c − 1 tells whether clock c is in it.
+#[derive(Clone, Copy)]
+pub struct ClockSet {
+    pub members: [bool; 6],
+}
+
+impl ClockSet {
+    /// Whether the clock of that number is in the set; 0 and what is above 6 is no clock.
+    pub fn has(&self, clock: u8) -> bool
+        ensures value { λ r. ⌜ r ≡ has (now (self .entry)) clock ⌝ }
+    {
+        if clock == 0 || clock > CLOCKS {
+            return false;
+        }
+        self.members[clock as usize - 1]
+    }
+
+    // The mark with the clocks of the set replaced by mark 0.
+    pub(crate) fn mark_before(&self, mark: u8) -> u8
+        ensures { λ r. ⌜ r ≡ mark-before-reset (now (self .entry)) mark ⌝ }
+    {
+        if self.has(mark) { 0 } else { mark }
+    }
+}

@@ -1,0 +1,16 @@
+//! Rows: bounds on the difference of two marks, linear in the scale and the parameters.
+mod clock_set;
+mod laws;
+mod replace;
+mod row;
+mod valuation;
+
+pub use clock_set::CLOCKS;
+pub use clock_set::ClockSet;
+pub use replace::WAITED;
+pub use row::LARGEST_COEFFICIENT;
+pub use row::Row;
+pub use row::RowPartialEq;
+pub use valuation::LARGEST_SCALE;
+pub use valuation::LARGEST_VALUE;
+pub use valuation::Valuation;

@@ -1,0 +1,65 @@
+ghost use mathlib.Core.Path.{_≡_};
+ghost use Rattle.std.specs.Orderings.{Decides};
+ghost use Rattle.rows.specs.Lawful.{Lawful, is-moderate, may-stand, all-may-stand, marks-known, is-lawful};
+
+/// The bound xi − xj ≤ t0·k + t1·p1 + … + t6·p6, or < when strict: k is the scale, p1 to p6 are the parameters.
+///
+/// Mark 0 is always 0, marks 1 to 6 are the clocks, mark 7 is the time waited.
+#[derive(Clone, Copy)]
+pub struct Row {
+    pub i: u8,
+    pub j: u8,
+    pub strict: bool,
+    pub t: [i32; 7],
+}
+
+/// No coefficient of a lawful row is farther from 0.
+pub const LARGEST_COEFFICIENT: i32 = 1_000_000;
+
+pub impl PartialEq<Row> for Row as RowPartialEq {
+    ghost equals = { λ x y r. Decides r (x ≡ y) };
+
+    fn eq(&self, other: &Row) -> bool {
+        self.i == other.i && self.j == other.j && self.strict == other.strict && self.t == other.t
+    }
+}
+
+fn is_moderate(z: i32) -> bool
+    ensures { λ r. ⌜ r ≡ is-moderate z ⌝ }
+{
+    -LARGEST_COEFFICIENT <= z && z <= LARGEST_COEFFICIENT
+}
+
+// Whether z may stand as coefficient number c.
+fn may_stand(parameters: u8, c: usize, z: i32) -> bool
+    ensures { λ r. ⌜ r ≡ may-stand parameters c z ⌝ }
+{
+    is_moderate(z) && (c <= parameters as usize || z == 0)
+}
+
+fn all_may_stand(parameters: u8, t: &[i32; 7]) -> bool
+    ensures { λ r. ⌜ r ≡ all-may-stand parameters 0 (now (t .entry)) ⌝ }
+{
+    for (c, z) in t.iter().enumerate() {
+        if !may_stand(parameters, c, *z) {
+            return false;
+        }
+    }
+    true
+}
+
+impl Row {
+    fn marks_known(&self, clocks: u8) -> bool
+        ensures { λ r. ⌜ r ≡ marks-known clocks (now (self .entry)) ⌝ }
+    {
+        self.i <= clocks && self.j <= clocks && (self.i != self.j || self.i == 0)
+    }
+
+    /// Whether the row may stand in a model of so many clocks and parameters.
+    pub fn is_lawful(&self, clocks: u8, parameters: u8) -> bool
+        ensures decides { λ r. ⌜ Decides r (Lawful clocks parameters (now (self .entry))) ⌝ }
+        ensures value { λ r. ⌜ r ≡ is-lawful clocks parameters (now (self .entry)) ⌝ }
+    {
+        self.marks_known(clocks) && all_may_stand(parameters, &self.t)
+    }
+}

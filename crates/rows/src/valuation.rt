@@ -1,0 +1,93 @@
+ghost use mathlib.Core.Path.{_≡_};
+ghost use mathlib.Core.Bool.{_&&_};
+ghost use Prim.Native.Nat.{_^_, _≤_};
+ghost use lib.Dec.{eqb};
+ghost use lib.IntN.{pos, natAbs, _*ℤ_};
+ghost use lib.ListN.{length};
+ghost use Rattle.std.specs.Orderings.{Decides};
+ghost use Rattle.rows.specs.Points.{weighed};
+ghost use Rattle.rows.specs.Valuations.{In-range, is-in-range, all-small, scale-fits, unit-of, Tells, is-met};
+use crate::row::Row;
+
+/// A setting in numbers: the scale, and the value of parameter c at place c − 1. A parameter without a value counts as 0.
+#[derive(Clone, Copy)]
+pub struct Valuation<'a> {
+    pub scale: u32,
+    pub values: &'a [u32],
+}
+
+/// The largest scale within the limits.
+pub const LARGEST_SCALE: u32 = 1_000_000;
+
+/// The largest value of a parameter within the limits.
+pub const LARGEST_VALUE: u32 = 1_000_000_000;
+
+fn all_small(values: &[u32]) -> bool
+    ensures { λ r. ⌜ r ≡ all-small (now (values .entry)) ⌝ }
+{
+    for v in values {
+        if *v > LARGEST_VALUE {
+            return false;
+        }
+    }
+    true
+}
+
+// z · unit
+fn product(z: i32, unit: u32) -> i128
+    ensures value { λ r. ⌜ r ≡ z *ℤ pos unit ⌝ }
+    ensures size { λ r. ⌜ natAbs r ≤ 2 ^ 63 ⌝ }
+{
+    z as i128 * unit as i128
+}
+
+impl Valuation<'_> {
+    /// Whether there is a value for each of so many parameters, and the scale and the values are within their limits.
+    pub fn is_in_range(&self, parameters: u8) -> bool
+        ensures decides { λ r. ⌜ Decides r (In-range parameters (now (self .entry))) ⌝ }
+        ensures value { λ r. ⌜ r ≡ is-in-range parameters (now (self .entry) .scale) (now (self .entry) .values .now) ⌝ }
+    {
+        self.numbers_fit(parameters) && all_small(self.values)
+    }
+
+    fn numbers_fit(&self, parameters: u8) -> bool
+        ensures { λ r. ⌜ r ≡ (eqb (length (now (self .entry) .values .now)) parameters && scale-fits (now (self .entry) .scale)) ⌝ }
+    {
+        self.values.len() == parameters as usize && 1 <= self.scale && self.scale <= LARGEST_SCALE
+    }
+
+    // What coefficient number c multiplies: the scale at 0, then the parameters.
+    fn unit(&self, c: usize) -> u32
+        ensures { λ r. ⌜ r ≡ unit-of (now (self .entry) .scale) (now (self .entry) .values .now) c ⌝ }
+    {
+        if c == 0 {
+            return self.scale;
+        }
+        match self.values.get(c - 1) {
+            Some(v) => *v,
+            None => 0,
+        }
+    }
+
+    // t0·k + t1·p1 + … + t6·p6
+    fn bound(&self, t: &[i32; 7]) -> i128
+        ensures { λ r. ⌜ r ≡ weighed (unit-of (now (self .entry) .scale) (now (self .entry) .values .now)) 0 (now (t .entry)) ⌝ }
+    {
+        let mut sum: i128 = 0;
+        for (c, z) in t.iter().enumerate() {
+            sum += product(*z, self.unit(c));
+        }
+        sum
+    }
+}
+
+impl Row {
+    /// Whether the row is met where all marks are 0; a row without marks is then met at every point of the setting.
+    pub fn is_met(&self, valuation: &Valuation) -> bool
+        ensures tells { λ r. ⌜ Tells (now (valuation .entry)) (now (self .entry)) r ⌝ }
+        ensures value { λ r. ⌜ r ≡ is-met (now (valuation .entry) .scale) (now (valuation .entry) .values .now) (now (self .entry)) ⌝ }
+    {
+        let bound = valuation.bound(&self.t);
+        if self.strict { 0 < bound } else { 0 <= bound }
+    }
+}
