@@ -4,7 +4,7 @@ use mathlib.Core.Bool.{Bool, true, false, not, _&&_, _||_}
 use mathlib.Core.List.{List, [], _∷_}
 use Prim.Native.Nat.{ℕ, suc, _≤_, _<_}
 use lib.Dec.{leb, eqb}
-use lib.IntN.{ℤ, pos, negsuc}
+use lib.IntN.{ℤ, pos, negsuc, negℤ}
 use lib.ListN.{getD}
 use lib.Signed.{leZ, _≤ℤ_}
 use Rattle.rows.specs.declared.row.Row.{Row}
@@ -15,7 +15,7 @@ coefficient r c = getD (r .t) c (pos 0)
 
 -- from −1,000,000 to 1,000,000
 pub record Moderate (z : ℤ) : Type 0 where
-  pub low : negsuc 999999 ≤ℤ z
+  pub low : negℤ (pos 1000000) ≤ℤ z
   pub high : z ≤ℤ pos 1000000
 
 -- lawful for m clocks and n parameters
@@ -29,7 +29,7 @@ pub record Lawful (m n : ℕ) (r : Row) : Type 0 where
 -- the same as a test, for definitions that have to decide
 
 abbrev pub is-moderate : ℤ → Bool
-is-moderate z = leZ (negsuc 999999) z && leZ z (pos 1000000)
+is-moderate z = leZ (negℤ (pos 1000000)) z && leZ z (pos 1000000)
 
 abbrev pub is-zero : ℤ → Bool
 is-zero (pos n) = eqb n 0

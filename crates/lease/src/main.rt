@@ -1,0 +1,48 @@
+//! The lease of a drawing: which times meet the term that keeps two people from writing at once.
+use report::Formula;
+use report::FormulaDisplay;
+use report::Standing;
+use report::StandingDisplay;
+use rows::Row;
+use rows::Valuation;
+use std::io;
+
+// An editor renews within p1, and a silent editor keeps the drawing for p2: p2 has to be the longer.
+const TERM: Row = Row {
+    i: 0,
+    j: 0,
+    strict: true,
+    t: [0, -1, 1, 0, 0, 0, 0],
+};
+
+const PARAMETERS: u8 = 2;
+
+// One second is a thousand units.
+const SCALE: u32 = 1000;
+
+fn report_setting(rt: &LibcRuntime, renew: u32, keep: u32) -> io::Result<()> {
+    let values = [renew, keep];
+    let valuation = Valuation {
+        scale: SCALE,
+        values: &values,
+    };
+    let standing = Standing::of(&TERM, PARAMETERS, &valuation);
+    println!(
+        rt,
+        "At scale {SCALE}, the setting p1 = {renew}, p2 = {keep} {standing}."
+    )
+}
+
+fn main(rt: LibcRuntime) -> io::Result<()> {
+    let term = Formula { row: TERM };
+    println!(
+        rt,
+        "An editor of a drawing must renew within p1; a silent editor keeps it for p2."
+    )?;
+    println!(
+        rt,
+        "The term is {term}: a drawing is kept longer than an editor may take to renew."
+    )?;
+    report_setting(&rt, 30_000, 45_000)?;
+    report_setting(&rt, 45_000, 45_000)
+}
