@@ -1,8 +1,6 @@
 //! The lease of a drawing: which times meet the term that keeps two people from writing at once.
 use report::Formula;
 use report::FormulaDisplay;
-use report::Standing;
-use report::StandingDisplay;
 use rows::Row;
 use rows::Valuation;
 use std::io;
@@ -20,16 +18,27 @@ const PARAMETERS: u8 = 2;
 // One second is a thousand units.
 const SCALE: u32 = 1000;
 
+// How the setting stands to the term: the end of a sentence.
+fn standing(valuation: &Valuation) -> &'static str {
+    if !valuation.is_in_range(PARAMETERS) {
+        "is outside the limits"
+    } else if TERM.is_met(valuation) {
+        "meets the term"
+    } else {
+        "does not meet the term"
+    }
+}
+
 fn report_setting(rt: &LibcRuntime, renew: u32, keep: u32) -> io::Result<()> {
     let values = [renew, keep];
     let valuation = Valuation {
         scale: SCALE,
         values: &values,
     };
-    let standing = Standing::of(&TERM, PARAMETERS, &valuation);
+    let end = standing(&valuation);
     println!(
         rt,
-        "At scale {SCALE}, the setting p1 = {renew}, p2 = {keep} {standing}."
+        "At scale {SCALE}, the setting p1 = {renew}, p2 = {keep} {end}."
     )
 }
 

@@ -1,8 +1,5 @@
-//! What is checked, in formulas and sentences that a person reads.
+//! What is checked, in formulas that a person reads.
 mod formula;
-mod standing;
 
 pub use formula::Formula;
 pub use formula::FormulaDisplay;
-pub use standing::Standing;
-pub use standing::StandingDisplay;

@@ -13,7 +13,7 @@ use Rattle.std.proofs.shelf.Signed.{ints}
 use Rattle.std.proofs.shelf.Tests.{and-parts, and-from, cases-lt, le-leb}
 use Rattle.std.proofs.shelf.Ways.{tells, decides-and, decides-like}
 use Rattle.rows.specs.declared.row.Row.{Row}
-use Rattle.rows.specs.Lawful.{Moderate, Lawful, is-moderate, is-zero, may-stand, all-may-stand, marks-known, is-lawful}
+use Rattle.rows.specs.Lawful.{Moderate, Lawful-marks, Lawful-bound, Lawful, is-moderate, is-zero, may-stand, all-may-stand, has-lawful-marks, has-lawful-bound, is-lawful}
 
 pub moderate-decides : (z : ℤ) → Decides (is-moderate z) (Moderate z)
 moderate-decides z = (λ h. record { low = grind (arith, ints); high = grind (arith, ints) }, λ h. grind (arith, ints))
@@ -58,24 +58,23 @@ all-stand-tests n c (z ∷ zs) h =
     (stand-decides n c z .1 (h 0 .0, λ l. h 0 .1 (omega arith)))
     (all-stand-tests n (suc c) zs (λ k. (h (suc k) .0, λ l. h (suc k) .1 (omega arith))))
 
-pub lawful-decides : (m n : ℕ) (r : Row) → Decides (is-lawful m n r) (Lawful m n r)
-unfolding is-lawful
-lawful-decides m n r = (
-  λ h.
-      let p = and-parts (marks-known m r) (all-may-stand n 0 (r .t)) h in
-      let q = all-stand-means n 0 (r .t) (p .1) in
-      record {
-        i-known = grind (arith, tells);
-        j-known = grind (arith, tells);
-        apart = λ e. grind (arith, tells);
-        moderate = λ c. q c .0;
-        absent = λ c l. q c .1 (omega arith);
-      },
-  λ h.
-      and-from (marks-known m r) (all-may-stand n 0 (r .t))
-      (marks-tests (r .i) (r .j) (h .i-known) (h .j-known) (h .apart))
-      (all-stand-tests n 0 (r .t) (λ c. (h .moderate c, λ l. h .absent c (omega arith)))),
+pub marks-decide : (m : ℕ) (r : Row) → Decides (has-lawful-marks m r) (Lawful-marks m r)
+marks-decide m r = (
+  λ h. record { i-known = grind (arith, tells); j-known = grind (arith, tells); apart = λ e. grind (arith, tells) },
+  λ h. marks-tests (r .i) (r .j) (h .i-known) (h .j-known) (h .apart),
 )
   where
     marks-tests : (i j : ℕ) → i ≤ m → j ≤ m → (i ≡ j → i ≡ 0) → (leb i m && (leb j m && (not (eqb i j) || eqb i 0))) ≡ true
     marks-tests i j a b f = grind (arith, tells)
+
+pub bound-decides : (n : ℕ) (r : Row) → Decides (has-lawful-bound n r) (Lawful-bound n r)
+bound-decides n r = (
+  λ h. let q = all-stand-means n 0 (r .t) h in record { moderate = λ c. q c .0; absent = λ c l. q c .1 (omega arith) },
+  λ h. all-stand-tests n 0 (r .t) (λ c. (h .moderate c, λ l. h .absent c (omega arith))),
+)
+
+pub lawful-decides : (m n : ℕ) (r : Row) → Decides (is-lawful m n r) (Lawful m n r)
+lawful-decides m n r =
+    let a = has-lawful-marks m r in
+    let b = has-lawful-bound n r in
+    decides-like (a && b) (λ h. record { marks = h .0; bound = h .1 }) (λ h. (h .marks, h .bound)) (decides-and a b (marks-decide m r) (bound-decides n r))

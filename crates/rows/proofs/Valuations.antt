@@ -16,8 +16,7 @@ use Rattle.std.proofs.shelf.Ways.{tells, decides-at}
 use Rattle.rows.specs.declared.row.Row.{Row}
 use Rattle.rows.specs.declared.valuation.Valuation.{Valuation}
 use Rattle.rows.specs.Points.{Setting, Point, unit, weighed, bound, Ordered, Holds}
-use Rattle.rows.specs.Moves.{at-zero, marks}
-use Rattle.rows.specs.Valuations.{In-range, is-in-range, all-small, scale-fits, Gives, Tells, unit-of, is-ordered, is-met}
+use Rattle.rows.specs.Valuations.{Small, In-range, Gives, Tells, all-small, is-in-range, unit-of, is-ordered, is-met}
 
 pub weighed-more : (f : ℕ → ℕ) (ts : List ℤ) (c : ℕ) → c < length ts → weighed f c (drop c ts) ≡ getD ts c (pos 0) *ℤ pos (f c) +ℤ weighed f (c + 1) (drop (c + 1) ts)
 weighed-more f ts c h =
@@ -43,25 +42,25 @@ ordered-decides : (b : Bool) (x y : ℤ) → Decides (is-ordered b x y) (Ordered
 ordered-decides true x y = (λ h. grind (arith, ints), λ h. grind (arith, ints))
 ordered-decides false x y = (λ h. grind (arith, ints), λ h. grind (arith, ints))
 
+weighed-gives : (v : Valuation) (s : Setting) → Gives v s → (ts : List ℤ) → weighed (unit-of (v .scale) (v .values .now)) 0 ts ≡ weighed (unit s) 0 ts
+weighed-gives v s g ts = weighed-like (unit-of (v .scale) (v .values .now)) (unit s) (gives-unit v s g) 0 ts
+
 -- the test decides the bound on any difference that is 0
-met-decides : (v : Valuation) (r : Row) (s : Setting) → Gives v s → (a b : ℕ) → a ≡ b → Decides (is-met (v .scale) (v .values .now) r) (Ordered (r .strict) (pos a -ℤ pos b) (bound s r))
-unfolding is-met
-met-decides v r s g a b e =
-    let z : pos 0 ≡ pos a -ℤ pos b = omega (arith, ints) in
-    let w = weighed-like (unit-of (v .scale) (v .values .now)) (unit s) (gives-unit v s g) 0 (r .t) in
-    decides-at _ _ (ap (λ x. is-ordered (r .strict) x (weighed (unit-of (v .scale) (v .values .now)) 0 (r .t))) z ∙ ap (is-ordered (r .strict) (pos a -ℤ pos b)) w)
-    (ordered-decides (r .strict) (pos a -ℤ pos b) (bound s r))
+pub ordered-law : (v : Valuation) (strict : Bool) (ts : List ℤ) (s : Setting) → Gives v s → (a b : ℕ) → a ≡ b
+    → Decides (is-ordered strict (pos 0) (weighed (unit-of (v .scale) (v .values .now)) 0 ts)) (Ordered strict (pos a -ℤ pos b) (weighed (unit s) 0 ts))
+ordered-law v strict ts s g a b e =
+    let d : pos 0 ≡ pos a -ℤ pos b = omega (arith, ints) in
+    let w = weighed (unit-of (v .scale) (v .values .now)) 0 ts in
+    decides-at _ _ (ap (λ y. is-ordered strict y w) d ∙ ap (is-ordered strict (pos a -ℤ pos b)) (weighed-gives v s g ts)) (ordered-decides strict (pos a -ℤ pos b) (weighed (unit s) 0 ts))
 
-zero-mark : (c : ℕ) → marks (λ _. 0) c ≡ 0
-zero-mark zero = refl
-zero-mark (suc c) = refl
-
+-- a row without marks is met, or not, at every point of the setting
 pub met-tells : (v : Valuation) (r : Row) → Tells v r (is-met (v .scale) (v .values .now) r)
 met-tells v r = record {
-  at-start = λ s g. met-decides v r s g (marks (λ _. 0) (r .i)) (marks (λ _. 0) (r .j)) (zero-mark (r .i) ∙ sym (zero-mark (r .j)));
-  everywhere = λ i j p g. met-decides v r (p .setting) g (p .mark (r .i)) (p .mark (r .j)) (ap (p .mark) (i ∙ sym j));
+  at-start = λ s g. ordered-law v (r .strict) (r .t) s g 0 0 refl;
+  everywhere = λ i j p g. ordered-law v (r .strict) (r .t) (p .setting) g (p .mark (r .i)) (p .mark (r .j)) (ap (p .mark) (i ∙ sym j));
 }
 
+-- Small, as the test has it
 all-small-means : (ns : List ℕ) → all-small ns ≡ true → (c : ℕ) → getD ns c 0 ≤ 1000000000
 all-small-means [] h c = omega arith
 all-small-means (n ∷ ns) h zero = grind (arith, tells)
@@ -73,26 +72,19 @@ all-small-tests (n ∷ ns) h =
     let k : n ≤ 1000000000 = h 0 in
     and-from (leb n 1000000000) (all-small ns) (grind (arith, tells)) (all-small-tests ns (λ c. h (suc c)))
 
+pub small-decides : (ns : List ℕ) → Decides (all-small ns) (Small ns)
+small-decides ns = (all-small-means ns, all-small-tests ns)
+
 pub in-range-decides : (n : ℕ) (v : Valuation) → Decides (is-in-range n (v .scale) (v .values .now)) (In-range n v)
-unfolding is-in-range
 in-range-decides n v =
     let ns = v .values .now in (
       λ h.
           let s : all-small ns ≡ true = grind arith in
-          record { count = grind (arith, tells); scale-low = grind (arith, tells); scale-high = grind (arith, tells); values-high = all-small-means ns s },
+          record { count = grind (arith, tells); scale-low = grind (arith, tells); scale-high = grind (arith, tells); small = all-small-means ns s },
       λ h.
           let a = h .count in
           let b = h .scale-low in
           let d = h .scale-high in
-          let s = all-small-tests ns (h .values-high) in
+          let s = all-small-tests ns (h .small) in
           grind (arith, tells),
     )
-
--- the test by its two cases
-pub is-met-strict : (scale : ℕ) (values : List ℕ) (r : Row) (z : ℤ) → r .strict ≡ true → z ≡ weighed (unit-of scale values) 0 (r .t) → ltZ (pos 0) z ≡ is-met scale values r
-unfolding is-met
-is-met-strict scale values r z s e = ap (ltZ (pos 0)) e ∙ ap (λ b. is-ordered b (pos 0) (weighed (unit-of scale values) 0 (r .t))) (sym s)
-
-pub is-met-weak : (scale : ℕ) (values : List ℕ) (r : Row) (z : ℤ) → r .strict ≡ false → z ≡ weighed (unit-of scale values) 0 (r .t) → leZ (pos 0) z ≡ is-met scale values r
-unfolding is-met
-is-met-weak scale values r z s e = ap (leZ (pos 0)) e ∙ ap (λ b. is-ordered b (pos 0) (weighed (unit-of scale values) 0 (r .t))) (sym s)

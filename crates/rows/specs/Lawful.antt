@@ -18,13 +18,21 @@ pub record Moderate (z : ℤ) : Type 0 where
   pub low : negℤ (pos 1000000) ≤ℤ z
   pub high : z ≤ℤ pos 1000000
 
--- lawful for m clocks and n parameters
-pub record Lawful (m n : ℕ) (r : Row) : Type 0 where
+-- both marks are at most m, and they differ or are both 0
+pub record Lawful-marks (m : ℕ) (r : Row) : Type 0 where
   pub i-known : r .i ≤ m
   pub j-known : r .j ≤ m
   pub apart : r .i ≡ r .j → r .i ≡ 0
+
+-- every coefficient is moderate, and those of parameters above n are 0
+pub record Lawful-bound (n : ℕ) (r : Row) : Type 0 where
   pub moderate : (c : ℕ) → Moderate (coefficient r c)
   pub absent : (c : ℕ) → n < c → coefficient r c ≡ pos 0
+
+-- lawful for m clocks and n parameters
+pub record Lawful (m n : ℕ) (r : Row) : Type 0 where
+  pub marks : Lawful-marks m r
+  pub bound : Lawful-bound n r
 
 -- the same as a test, for definitions that have to decide
 
@@ -44,8 +52,11 @@ abbrev pub all-may-stand : ℕ → ℕ → List ℤ → Bool
 all-may-stand n c [] = true
 all-may-stand n c (z ∷ zs) = may-stand n c z && all-may-stand n (suc c) zs
 
-abbrev pub marks-known : ℕ → Row → Bool
-marks-known m r = leb (r .i) m && (leb (r .j) m && (not (eqb (r .i) (r .j)) || eqb (r .i) 0))
+abbrev pub has-lawful-marks : ℕ → Row → Bool
+has-lawful-marks m r = leb (r .i) m && (leb (r .j) m && (not (eqb (r .i) (r .j)) || eqb (r .i) 0))
 
-unfoldable pub is-lawful : ℕ → ℕ → Row → Bool
-is-lawful m n r = marks-known m r && all-may-stand n 0 (r .t)
+abbrev pub has-lawful-bound : ℕ → Row → Bool
+has-lawful-bound n r = all-may-stand n 0 (r .t)
+
+abbrev pub is-lawful : ℕ → ℕ → Row → Bool
+is-lawful m n r = has-lawful-marks m r && has-lawful-bound n r

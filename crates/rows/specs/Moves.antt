@@ -29,7 +29,7 @@ at s w = record { setting = s; mark = marks w; origin = refl }
 
 -- the point where every mark is 0
 abbrev pub at-zero : Setting → Point
-at-zero s = at s (λ _. 0)
+at-zero s = record { setting = s; mark = λ _. 0; origin = refl }
 
 -- the clocks of the set are 0, the others as they were
 abbrev pub after-reset : ClockSet → Clocks → Clocks

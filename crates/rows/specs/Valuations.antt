@@ -13,12 +13,16 @@ use Rattle.rows.specs.declared.valuation.Valuation.{Valuation}
 use Rattle.rows.specs.Points.{Setting, Point, weighed, Holds}
 use Rattle.rows.specs.Moves.{at-zero}
 
+-- no value is above its limit
+abbrev pub Small : List ℕ → Type 0
+Small values = (c : ℕ) → getD values c 0 ≤ 1000000000
+
 -- n values, and the limits of the scale and of each value
 pub record In-range (n : ℕ) (v : Valuation) : Type 0 where
   pub count : length (v .values .now) ≡ n
   pub scale-low : 1 ≤ v .scale
   pub scale-high : v .scale ≤ 1000000
-  pub values-high : (c : ℕ) → getD (v .values .now) c 0 ≤ 1000000000
+  pub small : Small (v .values .now)
 
 -- these are the numbers of the setting: parameter c + 1 is at place c, and absent ones are 0
 pub record Gives (v : Valuation) (s : Setting) : Type 0 where
@@ -36,11 +40,8 @@ abbrev pub all-small : List ℕ → Bool
 all-small [] = true
 all-small (n ∷ ns) = leb n 1000000000 && all-small ns
 
-abbrev pub scale-fits : ℕ → Bool
-scale-fits scale = leb 1 scale && leb scale 1000000
-
-unfoldable pub is-in-range : ℕ → ℕ → List ℕ → Bool
-is-in-range n scale values = (eqb (length values) n && scale-fits scale) && all-small values
+abbrev pub is-in-range : ℕ → ℕ → List ℕ → Bool
+is-in-range n scale values = eqb (length values) n && (leb 1 scale && (leb scale 1000000 && all-small values))
 
 -- what coefficient number c multiplies
 abbrev pub unit-of : ℕ → List ℕ → ℕ → ℕ
@@ -52,5 +53,5 @@ is-ordered true a b = ltZ a b
 is-ordered false a b = leZ a b
 
 -- 0 ≤ t0·k + t1·p1 + … + t6·p6, or < when strict
-unfoldable pub is-met : ℕ → List ℕ → Row → Bool
+abbrev pub is-met : ℕ → List ℕ → Row → Bool
 is-met scale values r = is-ordered (r .strict) (pos 0) (weighed (unit-of scale values) 0 (r .t))

@@ -1,5 +1,5 @@
 ghost use mathlib.Core.Path.{_≡_};
-ghost use Rattle.rows.specs.Moves.{has, mark-before-reset};
+ghost use Rattle.rows.specs.Moves.{Clocks, marks, has, after-reset, mark-before-reset};
 
 /// The most clocks that a model may have.
 pub const CLOCKS: u8 = 6;
@@ -23,7 +23,8 @@ impl ClockSet {
 
     // The mark with the clocks of the set replaced by mark 0.
     pub(crate) fn mark_before(&self, mark: u8) -> u8
-        ensures { λ r. ⌜ r ≡ mark-before-reset (now (self .entry)) mark ⌝ }
+        ensures value { λ r. ⌜ r ≡ mark-before-reset (now (self .entry)) mark ⌝ }
+        ensures law { λ r. ⌜ ((w : Clocks) → marks w r ≡ marks (after-reset (now (self .entry)) w) mark) ⌝ }
     {
         if self.has(mark) { 0 } else { mark }
     }

@@ -10,7 +10,6 @@ pub use clock_set::ClockSet;
 pub use replace::WAITED;
 pub use row::LARGEST_COEFFICIENT;
 pub use row::Row;
-pub use row::RowPartialEq;
 pub use valuation::LARGEST_SCALE;
 pub use valuation::LARGEST_VALUE;
 pub use valuation::Valuation;

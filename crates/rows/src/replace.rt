@@ -1,5 +1,8 @@
 ghost use mathlib.Core.Path.{_≡_};
-ghost use Rattle.rows.specs.Moves.{before-reset, after-wait, mark-after-wait, Says-before-reset, Says-after-wait};
+ghost use mathlib.Core.Logic.{_↔_};
+ghost use Prim.Native.Nat.{ℕ, _+_, _≤_};
+ghost use Rattle.rows.specs.Points.{Point, Holds};
+ghost use Rattle.rows.specs.Moves.{Clocks, marks, with-wait, before-reset, after-wait, mark-after-wait, Says-before-reset, Says-after-wait};
 use crate::clock_set::ClockSet;
 use crate::row::Row;
 
@@ -7,23 +10,40 @@ use crate::row::Row;
 pub const WAITED: u8 = 7;
 
 fn mark_after_wait(mark: u8) -> u8
-    ensures { λ r. ⌜ r ≡ mark-after-wait mark ⌝ }
+    ensures value { λ r. ⌜ r ≡ mark-after-wait mark ⌝ }
+    ensures law { λ r. ⌜ (mark ≤ 6 → (w : Clocks) (d : ℕ) → marks (with-wait w d) r ≡ marks w mark + d) ⌝ }
 {
     if mark == 0 { WAITED } else { mark }
 }
 
 impl Row {
+    // The same bound on other marks: it holds at p as this row holds at q, if the settings and the differences are the same.
+    fn with_marks(&self, i: u8, j: u8) -> Row
+        ensures value { λ r. ⌜ r ≡ record { i = i; j = j; strict = now (self .entry) .strict; t = now (self .entry) .t } ⌝ }
+        ensures law { λ r. ⌜ ((p q : Point) → p .setting ≡ q .setting → p .mark i + q .mark (now (self .entry) .j) ≡ q .mark (now (self .entry) .i) + p .mark j → Holds p r ↔ Holds q (now (self .entry))) ⌝ }
+    {
+        Row {
+            i,
+            j,
+            strict: self.strict,
+            t: self.t,
+        }
+    }
+
     /// What to ask before the clocks of the set are reset, so that the row holds afterwards: those clocks are replaced by mark 0.
     pub fn before_reset(&self, resets: &ClockSet) -> Row
         ensures value { λ r. ⌜ r ≡ before-reset (now (resets .entry)) (now (self .entry)) ⌝ }
         ensures law { λ r. ⌜ Says-before-reset (now (resets .entry)) (now (self .entry)) r ⌝ }
     {
-        Row {
-            i: resets.mark_before(self.i),
-            j: resets.mark_before(self.j),
-            strict: self.strict,
-            t: self.t,
-        }
+        self.with_marks(resets.mark_before(self.i), resets.mark_before(self.j))
+    }
+
+    // Mark 0 replaced by the time waited, in both places.
+    fn shifted(&self) -> Row
+        ensures value { λ r. ⌜ r ≡ record { i = mark-after-wait (now (self .entry) .i); j = mark-after-wait (now (self .entry) .j); strict = now (self .entry) .strict; t = now (self .entry) .t } ⌝ }
+        ensures law { λ r. ⌜ Says-after-wait (now (self .entry)) r ⌝ }
+    {
+        self.with_marks(mark_after_wait(self.i), mark_after_wait(self.j))
     }
 
     /// What is known after a wait of x7, where the row held before it: mark 0 is replaced by 7 if the two marks differ.
@@ -32,13 +52,9 @@ impl Row {
         ensures law { λ r. ⌜ Says-after-wait (now (self .entry)) r ⌝ }
     {
         if self.i == self.j {
-            return *self;
-        }
-        Row {
-            i: mark_after_wait(self.i),
-            j: mark_after_wait(self.j),
-            strict: self.strict,
-            t: self.t,
+            self.with_marks(self.i, self.j)
+        } else {
+            self.shifted()
         }
     }
 }

@@ -1,6 +1,6 @@
 ghost use mathlib.Core.Path.{_≡_};
 ghost use Rattle.std.specs.Orderings.{Decides};
-ghost use Rattle.rows.specs.Lawful.{Lawful, is-moderate, may-stand, all-may-stand, marks-known, is-lawful};
+ghost use Rattle.rows.specs.Lawful.{Lawful-marks, Lawful-bound, Lawful, is-moderate, may-stand, all-may-stand, has-lawful-marks, has-lawful-bound, is-lawful};
 
 /// The bound xi − xj ≤ t0·k + t1·p1 + … + t6·p6, or < when strict: k is the scale, p1 to p6 are the parameters.
 ///
@@ -15,14 +15,6 @@ pub struct Row {
 
 /// No coefficient of a lawful row is farther from 0.
 pub const LARGEST_COEFFICIENT: i32 = 1_000_000;
-
-pub impl PartialEq<Row> for Row as RowPartialEq {
-    ghost equals = { λ x y r. Decides r (x ≡ y) };
-
-    fn eq(&self, other: &Row) -> bool {
-        self.i == other.i && self.j == other.j && self.strict == other.strict && self.t == other.t
-    }
-}
 
 fn is_moderate(z: i32) -> bool
     ensures { λ r. ⌜ r ≡ is-moderate z ⌝ }
@@ -49,10 +41,18 @@ fn all_may_stand(parameters: u8, t: &[i32; 7]) -> bool
 }
 
 impl Row {
-    fn marks_known(&self, clocks: u8) -> bool
-        ensures { λ r. ⌜ r ≡ marks-known clocks (now (self .entry)) ⌝ }
+    fn has_lawful_marks(&self, clocks: u8) -> bool
+        ensures decides { λ r. ⌜ Decides r (Lawful-marks clocks (now (self .entry))) ⌝ }
+        ensures value { λ r. ⌜ r ≡ has-lawful-marks clocks (now (self .entry)) ⌝ }
     {
         self.i <= clocks && self.j <= clocks && (self.i != self.j || self.i == 0)
+    }
+
+    fn has_lawful_bound(&self, parameters: u8) -> bool
+        ensures decides { λ r. ⌜ Decides r (Lawful-bound parameters (now (self .entry))) ⌝ }
+        ensures value { λ r. ⌜ r ≡ has-lawful-bound parameters (now (self .entry)) ⌝ }
+    {
+        all_may_stand(parameters, &self.t)
     }
 
     /// Whether the row may stand in a model of so many clocks and parameters.
@@ -60,6 +60,6 @@ impl Row {
         ensures decides { λ r. ⌜ Decides r (Lawful clocks parameters (now (self .entry))) ⌝ }
         ensures value { λ r. ⌜ r ≡ is-lawful clocks parameters (now (self .entry)) ⌝ }
     {
-        self.marks_known(clocks) && all_may_stand(parameters, &self.t)
+        self.has_lawful_marks(clocks) && self.has_lawful_bound(parameters)
     }
 }

@@ -1,12 +1,9 @@
 ghost use mathlib.Core.Path.{_≡_};
-ghost use mathlib.Core.Bool.{_&&_};
 ghost use Prim.Native.Nat.{_^_, _≤_};
-ghost use lib.Dec.{eqb};
 ghost use lib.IntN.{pos, natAbs, _*ℤ_};
-ghost use lib.ListN.{length};
 ghost use Rattle.std.specs.Orderings.{Decides};
 ghost use Rattle.rows.specs.Points.{weighed};
-ghost use Rattle.rows.specs.Valuations.{In-range, is-in-range, all-small, scale-fits, unit-of, Tells, is-met};
+ghost use Rattle.rows.specs.Valuations.{Small, In-range, Tells, all-small, is-in-range, unit-of, is-met};
 use crate::row::Row;
 
 /// A setting in numbers: the scale, and the value of parameter c at place c − 1. A parameter without a value counts as 0.
@@ -23,7 +20,8 @@ pub const LARGEST_SCALE: u32 = 1_000_000;
 pub const LARGEST_VALUE: u32 = 1_000_000_000;
 
 fn all_small(values: &[u32]) -> bool
-    ensures { λ r. ⌜ r ≡ all-small (now (values .entry)) ⌝ }
+    ensures decides { λ r. ⌜ Decides r (Small (now (values .entry))) ⌝ }
+    ensures value { λ r. ⌜ r ≡ all-small (now (values .entry)) ⌝ }
 {
     for v in values {
         if *v > LARGEST_VALUE {
@@ -47,13 +45,10 @@ impl Valuation<'_> {
         ensures decides { λ r. ⌜ Decides r (In-range parameters (now (self .entry))) ⌝ }
         ensures value { λ r. ⌜ r ≡ is-in-range parameters (now (self .entry) .scale) (now (self .entry) .values .now) ⌝ }
     {
-        self.numbers_fit(parameters) && all_small(self.values)
-    }
-
-    fn numbers_fit(&self, parameters: u8) -> bool
-        ensures { λ r. ⌜ r ≡ (eqb (length (now (self .entry) .values .now)) parameters && scale-fits (now (self .entry) .scale)) ⌝ }
-    {
-        self.values.len() == parameters as usize && 1 <= self.scale && self.scale <= LARGEST_SCALE
+        self.values.len() == parameters as usize
+            && 1 <= self.scale
+            && self.scale <= LARGEST_SCALE
+            && all_small(self.values)
     }
 
     // What coefficient number c multiplies: the scale at 0, then the parameters.
@@ -79,6 +74,15 @@ impl Valuation<'_> {
         }
         sum
     }
+
+    // Whether 0 is below the row's bound, or at it where not strict.
+    fn meets(&self, row: &Row) -> bool
+        ensures tells { λ r. ⌜ Tells (now (self .entry)) (now (row .entry)) r ⌝ }
+        ensures value { λ r. ⌜ r ≡ is-met (now (self .entry) .scale) (now (self .entry) .values .now) (now (row .entry)) ⌝ }
+    {
+        let bound = self.bound(&row.t);
+        if row.strict { 0 < bound } else { 0 <= bound }
+    }
 }
 
 impl Row {
@@ -87,7 +91,6 @@ impl Row {
         ensures tells { λ r. ⌜ Tells (now (valuation .entry)) (now (self .entry)) r ⌝ }
         ensures value { λ r. ⌜ r ≡ is-met (now (valuation .entry) .scale) (now (valuation .entry) .values .now) (now (self .entry)) ⌝ }
     {
-        let bound = valuation.bound(&self.t);
-        if self.strict { 0 < bound } else { 0 <= bound }
+        valuation.meets(self)
     }
 }

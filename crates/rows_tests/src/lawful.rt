@@ -1,5 +1,4 @@
 use rows::Row;
-use rows::RowPartialEq;
 use std::test::*;
 
 fn row(i: u8, j: u8, t: [i32; 7]) -> Row {
@@ -57,13 +56,4 @@ fn a_parameter_is_there_or_not() -> Result<(), Fail> {
     check(!row(0, 0, [0, 0, 1, 0, 0, 0, 0]).is_lawful(0, 1))?;
     check(row(0, 0, [1, 0, 0, 0, 0, 0, 0]).is_lawful(0, 0))?;
     check(!row(0, 0, [0, 1, 0, 0, 0, 0, 0]).is_lawful(0, 0))
-}
-
-#[test]
-fn rows_are_equal_in_every_part() -> Result<(), Fail> {
-    let r = row(1, 2, [1, 2, 3, 4, 5, 6, 7]);
-    check(r == row(1, 2, [1, 2, 3, 4, 5, 6, 7]))?;
-    check(r != row(2, 1, [1, 2, 3, 4, 5, 6, 7]))?;
-    check(r != row(1, 2, [1, 2, 3, 4, 5, 6, 8]))?;
-    check(r != Row { strict: true, ..r })
 }

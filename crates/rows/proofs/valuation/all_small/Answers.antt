@@ -7,8 +7,10 @@ use lib.Dec.{leb}
 use lib.ListN.{length, getD, drop}
 use Rattle.std.proofs.shelf.Lists.{at-drop-more, at-drop-all}
 use Rattle.std.proofs.shelf.Tests.{le-leb, lt-leb}
+use Rattle.std.proofs.shelf.Ways.{decides-at}
 use Rattle.rows.specs.Valuations.{all-small}
 use Rattle.rows.proofs.Asked.{asked-no, asked-more, asked-all}
+use Rattle.rows.proofs.Valuations.{small-decides}
 use Rattle.rows.proofs.valuation.all_small.Needs as need
 
 more : (ns : List ℕ) (c : ℕ) → c < length ns → all-small (drop c ns) ≡ (leb (getD ns c 0) 1000000000 && all-small (drop (c + 1) ns))
@@ -18,7 +20,8 @@ pub returns-then-v-gt-LARGEST-VALUE : need.returns-then-v-gt-LARGEST-VALUE
 returns-then-v-gt-LARGEST-VALUE c =
     let ns = c .args .values .now in
     let k = c .loop-v .v-index in
-    asked-no _ _ _ _ _ (more ns k (omega arith)) (c .loop-v .inv) refl (lt-leb (getD ns k 0) 1000000000 (c .if-v-gt-LARGEST-VALUE .taken))
+    let e = asked-no _ _ _ _ _ (more ns k (omega arith)) (c .loop-v .inv) refl (lt-leb (getD ns k 0) 1000000000 (c .if-v-gt-LARGEST-VALUE .taken)) in
+    record { decides = decides-at _ _ e (small-decides ns); value = e }
 
 pub loop-v-again : need.loop-v-again
 loop-v-again c =
@@ -27,4 +30,7 @@ loop-v-again c =
     asked-more _ _ _ _ _ (more ns k (omega arith)) (c .loop-v .inv) refl (le-leb (getD ns k 0) 1000000000 (c .if-v-gt-LARGEST-VALUE .left))
 
 pub returns : need.returns
-returns c = asked-all _ _ (at-drop-all all-small (c .args .values .now) (c .loop-v .v-index) (omega arith)) (c .loop-v .inv)
+returns c =
+    let ns = c .args .values .now in
+    let e = asked-all _ _ (at-drop-all all-small ns (c .loop-v .v-index) (omega arith)) (c .loop-v .inv) in
+    record { decides = decides-at _ _ e (small-decides ns); value = e }
