@@ -3,7 +3,7 @@ ghost use Prim.Native.Nat.{_^_, _≤_};
 ghost use lib.IntN.{pos, natAbs, _*ℤ_};
 ghost use Rattle.std.specs.Orderings.{Decides};
 ghost use Rattle.rows.specs.Points.{weighed};
-ghost use Rattle.rows.specs.Valuations.{Small, In-range, Tells, all-small, is-in-range, unit-of, is-met};
+ghost use Rattle.rows.specs.Valuations.{Small, In-range, Tells, all-small, is-in-range, unit-of, is-ordered, is-met};
 use crate::row::Row;
 
 /// A setting in numbers: the scale, and the value of parameter c at place c − 1. A parameter without a value counts as 0.
@@ -37,6 +37,13 @@ fn product(z: i32, unit: u32) -> i128
     ensures size { λ r. ⌜ natAbs r ≤ 2 ^ 63 ⌝ }
 {
     z as i128 * unit as i128
+}
+
+// Whether 0 < bound where strict, else whether 0 ≤ bound.
+fn is_above_zero(strict: bool, bound: i128) -> bool
+    ensures { λ r. ⌜ r ≡ is-ordered strict (pos 0) bound ⌝ }
+{
+    if strict { 0 < bound } else { 0 <= bound }
 }
 
 impl Valuation<'_> {
@@ -75,13 +82,12 @@ impl Valuation<'_> {
         sum
     }
 
-    // Whether 0 is below the row's bound, or at it where not strict.
+    // Whether the row is met where the difference of its marks is 0.
     fn meets(&self, row: &Row) -> bool
         ensures tells { λ r. ⌜ Tells (now (self .entry)) (now (row .entry)) r ⌝ }
         ensures value { λ r. ⌜ r ≡ is-met (now (self .entry) .scale) (now (self .entry) .values .now) (now (row .entry)) ⌝ }
     {
-        let bound = self.bound(&row.t);
-        if row.strict { 0 < bound } else { 0 <= bound }
+        is_above_zero(row.strict, self.bound(&row.t))
     }
 }
 
