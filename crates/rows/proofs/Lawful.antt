@@ -13,10 +13,10 @@ use Rattle.std.proofs.shelf.Signed.{ints}
 use Rattle.std.proofs.shelf.Tests.{and-parts, and-from, cases-lt, le-leb}
 use Rattle.std.proofs.shelf.Ways.{tells, decides-and, decides-like}
 use Rattle.rows.specs.declared.row.Row.{Row}
-use Rattle.rows.specs.Lawful.{Moderate, Lawful-marks, Lawful-bound, Lawful, is-moderate, is-zero, may-stand, all-may-stand, has-lawful-marks, has-lawful-bound, is-lawful}
+use Rattle.rows.specs.Lawful.{Within-limit, Lawful-marks, Lawful-bound, Lawful, is-within-limit, is-zero, is-lawful-coefficient, are-lawful-coefficients, has-lawful-marks, has-lawful-bound, is-lawful}
 
-pub moderate-decides : (z : ℤ) → Decides (is-moderate z) (Moderate z)
-moderate-decides z = (λ h. record { low = grind (arith, ints); high = grind (arith, ints) }, λ h. grind (arith, ints))
+pub within-limit-decides : (z : ℤ) → Decides (is-within-limit z) (Within-limit z)
+within-limit-decides z = (λ h. record { low = grind (arith, ints); high = grind (arith, ints) }, λ h. grind (arith, ints))
 
 zero-decides : (z : ℤ) → Decides (is-zero z) (z ≡ pos 0)
 zero-decides (pos n) = (λ h. ap pos (grind (arith, tells)), λ e. grind (arith, tells))
@@ -30,33 +30,33 @@ absent-decides n c z =
       λ f. elim (cases-lt n c) [ inl l ↦ (let e = d .1 (f l) in grind arith) | inr g ↦ (let e = le-leb c n g in grind arith) ],
     )
 
-stand-decides : (n c : ℕ) (z : ℤ) → Decides (may-stand n c z) (Moderate z × (n < c → z ≡ pos 0))
-stand-decides n c z = decides-and (is-moderate z) (leb c n || is-zero z) (moderate-decides z) (absent-decides n c z)
+coefficient-decides : (n c : ℕ) (z : ℤ) → Decides (is-lawful-coefficient n c z) (Within-limit z × (n < c → z ≡ pos 0))
+coefficient-decides n c z = decides-and (is-within-limit z) (leb c n || is-zero z) (within-limit-decides z) (absent-decides n c z)
 
 -- what the coefficients have to be, from number c on
-abbrev Stand : ℕ → ℕ → List ℤ → Type 0
-Stand n c zs = (k : ℕ) → Moderate (getD zs k (pos 0)) × (n < c + k → getD zs k (pos 0) ≡ pos 0)
+abbrev Lawful-from : ℕ → ℕ → List ℤ → Type 0
+Lawful-from n c zs = (k : ℕ) → Within-limit (getD zs k (pos 0)) × (n < c + k → getD zs k (pos 0) ≡ pos 0)
 
-moderate-zero : Moderate (pos 0)
-moderate-zero = record { low = omega (arith, ints); high = omega (arith, ints) }
+within-limit-zero : Within-limit (pos 0)
+within-limit-zero = record { low = omega (arith, ints); high = omega (arith, ints) }
 
-all-stand-means : (n c : ℕ) (zs : List ℤ) → all-may-stand n c zs ≡ true → Stand n c zs
-all-stand-means n c [] h k = (moderate-zero, λ l. refl)
-all-stand-means n c (z ∷ zs) h zero =
-    let p = and-parts (may-stand n c z) (all-may-stand n (suc c) zs) h in
-    let q = stand-decides n c z .0 (p .0) in
+coefficients-mean : (n c : ℕ) (zs : List ℤ) → are-lawful-coefficients n c zs ≡ true → Lawful-from n c zs
+coefficients-mean n c [] h k = (within-limit-zero, λ l. refl)
+coefficients-mean n c (z ∷ zs) h zero =
+    let p = and-parts (is-lawful-coefficient n c z) (are-lawful-coefficients n (suc c) zs) h in
+    let q = coefficient-decides n c z .0 (p .0) in
     (q .0, λ l. q .1 (omega arith))
-all-stand-means n c (z ∷ zs) h (suc k) =
-    let p = and-parts (may-stand n c z) (all-may-stand n (suc c) zs) h in
-    let q = all-stand-means n (suc c) zs (p .1) k in
+coefficients-mean n c (z ∷ zs) h (suc k) =
+    let p = and-parts (is-lawful-coefficient n c z) (are-lawful-coefficients n (suc c) zs) h in
+    let q = coefficients-mean n (suc c) zs (p .1) k in
     (q .0, λ l. q .1 (omega arith))
 
-all-stand-tests : (n c : ℕ) (zs : List ℤ) → Stand n c zs → all-may-stand n c zs ≡ true
-all-stand-tests n c [] h = refl
-all-stand-tests n c (z ∷ zs) h =
-    and-from (may-stand n c z) (all-may-stand n (suc c) zs)
-    (stand-decides n c z .1 (h 0 .0, λ l. h 0 .1 (omega arith)))
-    (all-stand-tests n (suc c) zs (λ k. (h (suc k) .0, λ l. h (suc k) .1 (omega arith))))
+coefficients-test : (n c : ℕ) (zs : List ℤ) → Lawful-from n c zs → are-lawful-coefficients n c zs ≡ true
+coefficients-test n c [] h = refl
+coefficients-test n c (z ∷ zs) h =
+    and-from (is-lawful-coefficient n c z) (are-lawful-coefficients n (suc c) zs)
+    (coefficient-decides n c z .1 (h 0 .0, λ l. h 0 .1 (omega arith)))
+    (coefficients-test n (suc c) zs (λ k. (h (suc k) .0, λ l. h (suc k) .1 (omega arith))))
 
 pub marks-decide : (m : ℕ) (r : Row) → Decides (has-lawful-marks m r) (Lawful-marks m r)
 marks-decide m r = (
@@ -69,8 +69,8 @@ marks-decide m r = (
 
 pub bound-decides : (n : ℕ) (r : Row) → Decides (has-lawful-bound n r) (Lawful-bound n r)
 bound-decides n r = (
-  λ h. let q = all-stand-means n 0 (r .t) h in record { moderate = λ c. q c .0; absent = λ c l. q c .1 (omega arith) },
-  λ h. all-stand-tests n 0 (r .t) (λ c. (h .moderate c, λ l. h .absent c (omega arith))),
+  λ h. let q = coefficients-mean n 0 (r .t) h in record { within = λ c. q c .0; absent = λ c l. q c .1 (omega arith) },
+  λ h. coefficients-test n 0 (r .t) (λ c. (h .within c, λ l. h .absent c (omega arith))),
 )
 
 pub lawful-decides : (m n : ℕ) (r : Row) → Decides (is-lawful m n r) (Lawful m n r)

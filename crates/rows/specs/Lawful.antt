@@ -1,4 +1,4 @@
--- Which rows may stand in a model of so many clocks and parameters.
+-- Which rows are lawful for m clocks and n parameters.
 use mathlib.Core.Path.{_≡_}
 use mathlib.Core.Bool.{Bool, true, false, not, _&&_, _||_}
 use mathlib.Core.List.{List, [], _∷_}
@@ -14,7 +14,7 @@ abbrev pub coefficient : Row → ℕ → ℤ
 coefficient r c = getD (r .t) c (pos 0)
 
 -- from −1,000,000 to 1,000,000
-pub record Moderate (z : ℤ) : Type 0 where
+pub record Within-limit (z : ℤ) : Type 0 where
   pub low : negℤ (pos 1000000) ≤ℤ z
   pub high : z ≤ℤ pos 1000000
 
@@ -24,9 +24,9 @@ pub record Lawful-marks (m : ℕ) (r : Row) : Type 0 where
   pub j-known : r .j ≤ m
   pub apart : r .i ≡ r .j → r .i ≡ 0
 
--- every coefficient is moderate, and those of parameters above n are 0
+-- every coefficient is within the limit, and those of parameters above n are 0
 pub record Lawful-bound (n : ℕ) (r : Row) : Type 0 where
-  pub moderate : (c : ℕ) → Moderate (coefficient r c)
+  pub within : (c : ℕ) → Within-limit (coefficient r c)
   pub absent : (c : ℕ) → n < c → coefficient r c ≡ pos 0
 
 -- lawful for m clocks and n parameters
@@ -36,27 +36,27 @@ pub record Lawful (m n : ℕ) (r : Row) : Type 0 where
 
 -- the same as a test, for definitions that have to decide
 
-abbrev pub is-moderate : ℤ → Bool
-is-moderate z = leZ (negℤ (pos 1000000)) z && leZ z (pos 1000000)
+abbrev pub is-within-limit : ℤ → Bool
+is-within-limit z = leZ (negℤ (pos 1000000)) z && leZ z (pos 1000000)
 
 abbrev pub is-zero : ℤ → Bool
 is-zero (pos n) = eqb n 0
 is-zero (negsuc n) = false
 
--- z may stand as coefficient number c where there are n parameters
-abbrev pub may-stand : ℕ → ℕ → ℤ → Bool
-may-stand n c z = is-moderate z && (leb c n || is-zero z)
+-- z is lawful as coefficient number c where there are n parameters
+abbrev pub is-lawful-coefficient : ℕ → ℕ → ℤ → Bool
+is-lawful-coefficient n c z = is-within-limit z && (leb c n || is-zero z)
 
--- so may each of these, from number c on
-abbrev pub all-may-stand : ℕ → ℕ → List ℤ → Bool
-all-may-stand n c [] = true
-all-may-stand n c (z ∷ zs) = may-stand n c z && all-may-stand n (suc c) zs
+-- so is each of these, from number c on
+abbrev pub are-lawful-coefficients : ℕ → ℕ → List ℤ → Bool
+are-lawful-coefficients n c [] = true
+are-lawful-coefficients n c (z ∷ zs) = is-lawful-coefficient n c z && are-lawful-coefficients n (suc c) zs
 
 abbrev pub has-lawful-marks : ℕ → Row → Bool
 has-lawful-marks m r = leb (r .i) m && (leb (r .j) m && (not (eqb (r .i) (r .j)) || eqb (r .i) 0))
 
 abbrev pub has-lawful-bound : ℕ → Row → Bool
-has-lawful-bound n r = all-may-stand n 0 (r .t)
+has-lawful-bound n r = are-lawful-coefficients n 0 (r .t)
 
 abbrev pub is-lawful : ℕ → ℕ → Row → Bool
 is-lawful m n r = has-lawful-marks m r && has-lawful-bound n r

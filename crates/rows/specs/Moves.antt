@@ -9,7 +9,7 @@ use Rattle.rows.specs.declared.row.Row.{Row}
 use Rattle.rows.specs.declared.clock_set.ClockSet.{ClockSet}
 use Rattle.rows.specs.Points.{Setting, Point, Holds}
 
--- clock values by number, from 1
+-- clock values by number: 1 to 6 are the clocks of a state, and no lawful row reads the others
 abbrev pub Clocks : Type 0
 Clocks = ℕ → ℕ
 
@@ -27,9 +27,9 @@ marks w (suc c) = w (suc c)
 abbrev pub at : Setting → Clocks → Point
 at s w = record { setting = s; mark = marks w; origin = refl }
 
--- the point where every mark is 0
+-- the point where all clocks are 0
 abbrev pub at-zero : Setting → Point
-at-zero s = record { setting = s; mark = λ _. 0; origin = refl }
+at-zero s = at s (λ _. 0)
 
 -- the clocks of the set are 0, the others as they were
 abbrev pub after-reset : ClockSet → Clocks → Clocks
@@ -39,11 +39,11 @@ after-reset set w c = cond (has set c) 0 (w c)
 abbrev pub later : Clocks → ℕ → Clocks
 later w d c = w c + d
 
--- every clock is later by d, and the time waited stands beside them as number 7
+-- the same, with the time waited as number 7
 abbrev pub with-wait : Clocks → ℕ → Clocks
 with-wait w d c = cond (eqb c 7) d (later w d c)
 
--- the point after a wait of d
+-- the point after a wait of d that began with these clocks
 abbrev pub waited : Setting → Clocks → ℕ → Point
 waited s w d = at s (with-wait w d)
 

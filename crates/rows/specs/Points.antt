@@ -8,7 +8,7 @@ use lib.Signed.{_≤ℤ_, _<ℤ_}
 use Rattle.std.specs.shelf.Lists.{All}
 use Rattle.rows.specs.declared.row.Row.{Row}
 
--- the scale (how many whole numbers make one unit of time), and a value for each parameter, counted from 1
+-- a scale of at least 1, which makes one unit of time, and a value for each parameter, counted from 1
 pub record Setting : Type 0 where
   pub scale : ℕ
   pub positive : 0 < scale
@@ -21,18 +21,18 @@ pub record Point : Type 0 where
   pub origin : mark 0 ≡ 0
 
 -- what coefficient number c multiplies: the scale at 0, then the parameters
-abbrev pub unit : Setting → ℕ → ℕ
-unit s zero = s .scale
-unit s (suc c) = s .parameter (suc c)
+abbrev pub weight : Setting → ℕ → ℕ
+weight s zero = s .scale
+weight s (suc c) = s .parameter (suc c)
 
--- the coefficients by what they multiply, summed up from number c on
-abbrev pub weighed : (ℕ → ℕ) → ℕ → List ℤ → ℤ
-weighed f c [] = pos 0
-weighed f c (t ∷ ts) = t *ℤ pos (f c) +ℤ weighed f (suc c) ts
+-- the coefficients by their weights, summed up from number c on
+abbrev pub weighted-sum : (ℕ → ℕ) → ℕ → List ℤ → ℤ
+weighted-sum f c [] = pos 0
+weighted-sum f c (t ∷ ts) = t *ℤ pos (f c) +ℤ weighted-sum f (suc c) ts
 
 -- t0·k + t1·p1 + … + t6·p6
 abbrev pub bound : Setting → Row → ℤ
-bound s r = weighed (unit s) 0 (r .t)
+bound s r = weighted-sum (weight s) 0 (r .t)
 
 -- xi − xj
 abbrev pub difference : Point → Row → ℤ

@@ -2,12 +2,12 @@ ghost use mathlib.Core.Path.{_≡_};
 ghost use Rattle.rows.specs.Moves.{Clocks, marks, has, after-reset, mark-before-reset};
 
 /// The most clocks that a model may have.
-pub const CLOCKS: u8 = 6;
+pub const CLOCKS: usize = 6;
 
 /// A set of clocks: place c − 1 tells whether clock c is in it.
 #[derive(Clone, Copy)]
 pub struct ClockSet {
-    pub members: [bool; 6],
+    pub members: [bool; CLOCKS],
 }
 
 impl ClockSet {
@@ -15,10 +15,11 @@ impl ClockSet {
     pub fn has(&self, clock: u8) -> bool
         ensures value { λ r. ⌜ r ≡ has (now (self .entry)) clock ⌝ }
     {
-        if clock == 0 || clock > CLOCKS {
+        let c = clock as usize;
+        if c == 0 || c > CLOCKS {
             return false;
         }
-        self.members[clock as usize - 1]
+        self.members[c - 1]
     }
 
     // The mark with the clocks of the set replaced by mark 0.

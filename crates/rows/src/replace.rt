@@ -30,7 +30,8 @@ impl Row {
         }
     }
 
-    /// What to ask before the clocks of the set are reset, so that the row holds afterwards: those clocks are replaced by mark 0.
+    /// The row that holds at a state exactly when this one holds after the clocks of the set are reset: those clocks are
+    /// replaced by mark 0.
     pub fn before_reset(&self, resets: &ClockSet) -> Row
         ensures value { λ r. ⌜ r ≡ before-reset (now (resets .entry)) (now (self .entry)) ⌝ }
         ensures law { λ r. ⌜ Says-before-reset (now (resets .entry)) (now (self .entry)) r ⌝ }
@@ -39,22 +40,23 @@ impl Row {
     }
 
     // Mark 0 replaced by the time waited, in both places.
-    fn shifted(&self) -> Row
+    fn with_time_waited(&self) -> Row
         ensures value { λ r. ⌜ r ≡ record { i = mark-after-wait (now (self .entry) .i); j = mark-after-wait (now (self .entry) .j); strict = now (self .entry) .strict; t = now (self .entry) .t } ⌝ }
         ensures law { λ r. ⌜ Says-after-wait (now (self .entry)) r ⌝ }
     {
         self.with_marks(mark_after_wait(self.i), mark_after_wait(self.j))
     }
 
-    /// What is known after a wait of x7, where the row held before it: mark 0 is replaced by 7 if the two marks differ.
+    /// The row that holds after a wait of x7 exactly when this one, on marks up to 6, held before it: mark 0 is replaced by 7
+    /// if the two marks differ.
     pub fn after_wait(&self) -> Row
         ensures value { λ r. ⌜ r ≡ after-wait (now (self .entry)) ⌝ }
         ensures law { λ r. ⌜ Says-after-wait (now (self .entry)) r ⌝ }
     {
         if self.i == self.j {
-            self.with_marks(self.i, self.j)
+            *self
         } else {
-            self.shifted()
+            self.with_time_waited()
         }
     }
 }

@@ -1,6 +1,6 @@
 ghost use mathlib.Core.Path.{_≡_};
 ghost use Rattle.std.specs.Orderings.{Decides};
-ghost use Rattle.rows.specs.Lawful.{Lawful-marks, Lawful-bound, Lawful, is-moderate, may-stand, all-may-stand, has-lawful-marks, has-lawful-bound, is-lawful};
+ghost use Rattle.rows.specs.Lawful.{Lawful-marks, Lawful-bound, Lawful, is-within-limit, is-lawful-coefficient, are-lawful-coefficients, has-lawful-marks, has-lawful-bound, is-lawful};
 
 /// The bound xi − xj ≤ t0·k + t1·p1 + … + t6·p6, or < when strict: k is the scale, p1 to p6 are the parameters.
 ///
@@ -16,24 +16,24 @@ pub struct Row {
 /// No coefficient of a lawful row is farther from 0.
 pub const LARGEST_COEFFICIENT: i32 = 1_000_000;
 
-fn is_moderate(z: i32) -> bool
-    ensures { λ r. ⌜ r ≡ is-moderate z ⌝ }
+fn is_within_limit(z: i32) -> bool
+    ensures { λ r. ⌜ r ≡ is-within-limit z ⌝ }
 {
     -LARGEST_COEFFICIENT <= z && z <= LARGEST_COEFFICIENT
 }
 
-// Whether z may stand as coefficient number c.
-fn may_stand(parameters: u8, c: usize, z: i32) -> bool
-    ensures { λ r. ⌜ r ≡ may-stand parameters c z ⌝ }
+// Whether z is lawful as coefficient number c.
+fn is_lawful_coefficient(parameters: u8, c: usize, z: i32) -> bool
+    ensures { λ r. ⌜ r ≡ is-lawful-coefficient parameters c z ⌝ }
 {
-    is_moderate(z) && (c <= parameters as usize || z == 0)
+    is_within_limit(z) && (c <= parameters as usize || z == 0)
 }
 
-fn all_may_stand(parameters: u8, t: &[i32; 7]) -> bool
-    ensures { λ r. ⌜ r ≡ all-may-stand parameters 0 (now (t .entry)) ⌝ }
+fn are_lawful_coefficients(parameters: u8, t: &[i32; 7]) -> bool
+    ensures { λ r. ⌜ r ≡ are-lawful-coefficients parameters 0 (now (t .entry)) ⌝ }
 {
     for (c, z) in t.iter().enumerate() {
-        if !may_stand(parameters, c, *z) {
+        if !is_lawful_coefficient(parameters, c, *z) {
             return false;
         }
     }
@@ -52,10 +52,11 @@ impl Row {
         ensures decides { λ r. ⌜ Decides r (Lawful-bound parameters (now (self .entry))) ⌝ }
         ensures value { λ r. ⌜ r ≡ has-lawful-bound parameters (now (self .entry)) ⌝ }
     {
-        all_may_stand(parameters, &self.t)
+        are_lawful_coefficients(parameters, &self.t)
     }
 
-    /// Whether the row may stand in a model of so many clocks and parameters.
+    /// Whether both marks are at most the number of clocks, and differ or are both 0; and the coefficients are within
+    /// their limit, those of parameters above the number of parameters being 0.
     pub fn is_lawful(&self, clocks: u8, parameters: u8) -> bool
         ensures decides { λ r. ⌜ Decides r (Lawful clocks parameters (now (self .entry))) ⌝ }
         ensures value { λ r. ⌜ r ≡ is-lawful clocks parameters (now (self .entry)) ⌝ }

@@ -2,8 +2,8 @@ ghost use mathlib.Core.Path.{_≡_};
 ghost use Prim.Native.Nat.{_^_, _≤_};
 ghost use lib.IntN.{pos, natAbs, _*ℤ_};
 ghost use Rattle.std.specs.Orderings.{Decides};
-ghost use Rattle.rows.specs.Points.{weighed};
-ghost use Rattle.rows.specs.Valuations.{Small, In-range, Tells, all-small, is-in-range, unit-of, is-ordered, is-met};
+ghost use Rattle.rows.specs.Points.{weighted-sum};
+ghost use Rattle.rows.specs.Valuations.{Values-within-limit, In-range, Tells, are-within-limit, is-in-range, weight-of, is-ordered, is-met};
 use crate::row::Row;
 
 /// A setting in numbers: the scale, and the value of parameter c at place c − 1. A parameter without a value counts as 0.
@@ -19,9 +19,9 @@ pub const LARGEST_SCALE: u32 = 1_000_000;
 /// The largest value of a parameter within the limits.
 pub const LARGEST_VALUE: u32 = 1_000_000_000;
 
-fn all_small(values: &[u32]) -> bool
-    ensures decides { λ r. ⌜ Decides r (Small (now (values .entry))) ⌝ }
-    ensures value { λ r. ⌜ r ≡ all-small (now (values .entry)) ⌝ }
+fn are_within_limit(values: &[u32]) -> bool
+    ensures decides { λ r. ⌜ Decides r (Values-within-limit (now (values .entry))) ⌝ }
+    ensures value { λ r. ⌜ r ≡ are-within-limit (now (values .entry)) ⌝ }
 {
     for v in values {
         if *v > LARGEST_VALUE {
@@ -31,12 +31,12 @@ fn all_small(values: &[u32]) -> bool
     true
 }
 
-// z · unit
-fn product(z: i32, unit: u32) -> i128
-    ensures value { λ r. ⌜ r ≡ z *ℤ pos unit ⌝ }
+// A coefficient by its weight.
+fn product(z: i32, weight: u32) -> i128
+    ensures value { λ r. ⌜ r ≡ z *ℤ pos weight ⌝ }
     ensures size { λ r. ⌜ natAbs r ≤ 2 ^ 63 ⌝ }
 {
-    z as i128 * unit as i128
+    z as i128 * weight as i128
 }
 
 // Whether 0 < bound where strict, else whether 0 ≤ bound.
@@ -47,20 +47,21 @@ fn is_above_zero(strict: bool, bound: i128) -> bool
 }
 
 impl Valuation<'_> {
-    /// Whether there is a value for each of so many parameters, and the scale and the values are within their limits.
+    /// Whether there is one value for each of so many parameters, the scale is from 1 to its limit, and no value is above its
+    /// limit.
     pub fn is_in_range(&self, parameters: u8) -> bool
-        ensures decides { λ r. ⌜ Decides r (In-range parameters (now (self .entry))) ⌝ }
+        ensures decides { λ r. ⌜ Decides r (In-range parameters (now (self .entry) .scale) (now (self .entry) .values .now)) ⌝ }
         ensures value { λ r. ⌜ r ≡ is-in-range parameters (now (self .entry) .scale) (now (self .entry) .values .now) ⌝ }
     {
         self.values.len() == parameters as usize
             && 1 <= self.scale
             && self.scale <= LARGEST_SCALE
-            && all_small(self.values)
+            && are_within_limit(self.values)
     }
 
     // What coefficient number c multiplies: the scale at 0, then the parameters.
-    fn unit(&self, c: usize) -> u32
-        ensures { λ r. ⌜ r ≡ unit-of (now (self .entry) .scale) (now (self .entry) .values .now) c ⌝ }
+    fn weight(&self, c: usize) -> u32
+        ensures { λ r. ⌜ r ≡ weight-of (now (self .entry) .scale) (now (self .entry) .values .now) c ⌝ }
     {
         if c == 0 {
             return self.scale;
@@ -73,18 +74,18 @@ impl Valuation<'_> {
 
     // t0·k + t1·p1 + … + t6·p6
     fn bound(&self, t: &[i32; 7]) -> i128
-        ensures { λ r. ⌜ r ≡ weighed (unit-of (now (self .entry) .scale) (now (self .entry) .values .now)) 0 (now (t .entry)) ⌝ }
+        ensures { λ r. ⌜ r ≡ weighted-sum (weight-of (now (self .entry) .scale) (now (self .entry) .values .now)) 0 (now (t .entry)) ⌝ }
     {
         let mut sum: i128 = 0;
         for (c, z) in t.iter().enumerate() {
-            sum += product(*z, self.unit(c));
+            sum += product(*z, self.weight(c));
         }
         sum
     }
 
-    // Whether the row is met where the difference of its marks is 0.
+    // Whether the row holds where the difference of its marks is 0.
     fn meets(&self, row: &Row) -> bool
-        ensures tells { λ r. ⌜ Tells (now (self .entry)) (now (row .entry)) r ⌝ }
+        ensures tells { λ r. ⌜ Tells (now (self .entry) .scale) (now (self .entry) .values .now) (now (row .entry)) r ⌝ }
         ensures value { λ r. ⌜ r ≡ is-met (now (self .entry) .scale) (now (self .entry) .values .now) (now (row .entry)) ⌝ }
     {
         is_above_zero(row.strict, self.bound(&row.t))
@@ -92,9 +93,10 @@ impl Valuation<'_> {
 }
 
 impl Row {
-    /// Whether the row is met where all marks are 0; a row without marks is then met at every point of the setting.
+    /// Whether the row holds at the setting where all clocks are 0; if its marks are equal, then whether it holds there whatever
+    /// the clocks are.
     pub fn is_met(&self, valuation: &Valuation) -> bool
-        ensures tells { λ r. ⌜ Tells (now (valuation .entry)) (now (self .entry)) r ⌝ }
+        ensures tells { λ r. ⌜ Tells (now (valuation .entry) .scale) (now (valuation .entry) .values .now) (now (self .entry)) r ⌝ }
         ensures value { λ r. ⌜ r ≡ is-met (now (valuation .entry) .scale) (now (valuation .entry) .values .now) (now (self .entry)) ⌝ }
     {
         valuation.meets(self)

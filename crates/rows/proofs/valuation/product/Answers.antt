@@ -30,14 +30,14 @@ pub mul-result : need.mul-result
 mul-result c =
     let f : SFits w32 (c .args .z) = c .fits .z in
     let g : SFits w128 (c .args .z) = omega (arith, ints) in
-    let u : toZ w128 (c .args .unit) ≡ pos (c .args .unit) = omega (arith, ints) in
-    simp (toZ-ofZ, u) (fits _ (small (c .args .z) (c .args .unit) f (omega arith)))
+    let u : toZ w128 (c .args .weight) ≡ pos (c .args .weight) = omega (arith, ints) in
+    simp (toZ-ofZ, u) (fits _ (small (c .args .z) (c .args .weight) f (omega arith)))
 
 pub returns : need.returns
 returns c =
     let f : SFits w32 (c .args .z) = c .fits .z in
     let g : SFits w128 (c .args .z) = omega (arith, ints) in
-    let u : toZ w128 (c .args .unit) ≡ pos (c .args .unit) = omega (arith, ints) in
-    let s = small (c .args .z) (c .args .unit) f (omega arith) in
-    let h : SFits w128 (c .args .z *ℤ pos (c .args .unit)) = fits _ s in
+    let u : toZ w128 (c .args .weight) ≡ pos (c .args .weight) = omega (arith, ints) in
+    let s = small (c .args .z) (c .args .weight) f (omega arith) in
+    let h : SFits w128 (c .args .z *ℤ pos (c .args .weight)) = fits _ s in
     record { value = simp (toZ-ofZ, u); size = simp (toZ-ofZ, u) s }

@@ -4,5 +4,5 @@ use Rattle.rows.proofs.row.Row.has_lawful_bound.Needs as need
 
 pub returns : need.returns
 returns c =
-    let e = c .all-may-stand .ensures in
+    let e = c .are-lawful-coefficients .ensures in
     record { decides = decides-at _ _ e (bound-decides (c .args .parameters) (c .args .self .now)); value = e }
