@@ -13,7 +13,7 @@ use Rattle.rows.specs.declared.row.Row.{Row}
 abbrev pub coefficient : Row → ℕ → ℤ
 coefficient r c = getD (r .t) c (pos 0)
 
--- from −1,000,000 to 1,000,000
+-- at most 1,000,000 from 0
 pub record Within-limit (z : ℤ) : Type 0 where
   pub low : negℤ (pos 1000000) ≤ℤ z
   pub high : z ≤ℤ pos 1000000
@@ -24,7 +24,7 @@ pub record Lawful-marks (m : ℕ) (r : Row) : Type 0 where
   pub j-known : r .j ≤ m
   pub apart : r .i ≡ r .j → r .i ≡ 0
 
--- every coefficient is within the limit, and those of parameters above n are 0
+-- every coefficient is within the limit, and a parameter above n has coefficient 0
 pub record Lawful-bound (n : ℕ) (r : Row) : Type 0 where
   pub within : (c : ℕ) → Within-limit (coefficient r c)
   pub absent : (c : ℕ) → n < c → coefficient r c ≡ pos 0

@@ -51,6 +51,6 @@ Holds p r = Ordered (r .strict) (difference p r) (bound (p .setting) r)
 abbrev pub Meets : Point → List Row → Type 0
 Meets p rs = All (Holds p) rs
 
--- the goal holds at every point where all the rows hold
+-- wherever all the rows hold, the goal holds
 abbrev pub Forces : List Row → Row → Type 0
 Forces rs goal = (p : Point) → Meets p rs → Holds p goal

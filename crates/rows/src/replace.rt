@@ -47,8 +47,8 @@ impl Row {
         self.with_marks(mark_after_wait(self.i), mark_after_wait(self.j))
     }
 
-    /// The row that holds after a wait of x7 exactly when this one, on marks up to 6, held before it: mark 0 is replaced by 7
-    /// if the two marks differ.
+    /// The row that holds after a wait of x7 exactly when this one, on marks up to 6, held before it: where its marks
+    /// differ, mark 7 takes the place of mark 0.
     pub fn after_wait(&self) -> Row
         ensures value { λ r. ⌜ r ≡ after-wait (now (self .entry)) ⌝ }
         ensures law { λ r. ⌜ Says-after-wait (now (self .entry)) r ⌝ }

@@ -48,7 +48,7 @@ fn a_unit_of_time_is_the_scale() -> Result<(), Fail> {
     check(!met(three_units, 1000, &[2999]))
 }
 
-// 0 < k - p1: at scale 2 the value 1 is half a unit, at scale 1 nothing lies between 0 and 1.
+// 0 < k - p1: half a unit is 1 at scale 2, and nothing lies between 0 and 1 at scale 1.
 #[test]
 fn half_a_unit_is_below_one() -> Result<(), Fail> {
     let below_one = term(true, [1, -1, 0, 0, 0, 0, 0]);
