@@ -3,7 +3,7 @@ use mathlib.Core.List.{List}
 use Rattle.std.specs.shelf.Lists.{All, Has}
 use Rattle.std.proofs.shelf.Elements.{all-has, all-has-itself, all-weaker}
 use Rattle.rows.specs.declared.row.Row.{Row}
-use Rattle.rows.specs.Points.{Point, Holds, Meets, Forces}
+use Rattle.rows.specs.Points.{Holds, Forces}
 use Rattle.rows.specs.Forcing.{Forcing-laws}
 
 pub forces-row : (rs : List Row) (goal : Row) → Has rs goal → Forces rs goal

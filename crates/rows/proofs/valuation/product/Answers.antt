@@ -4,7 +4,7 @@ use mathlib.Core.Path.{_≡_, refl, ap, _∙_}
 use Prim.Native.Nat.{ℕ, zero, suc, _*_, _^_, _≤_, _<_}
 use lib.IntN.{ℤ, pos, negsuc, negℤ, natAbs, _*ℤ_, negsuc-*ℤ-pos}
 use mir.Syntax.{w32, w128}
-use mir.Val.{SFits, toZ, ofZ}
+use mir.Val.{SFits, toZ}
 use Rattle.std.proofs.shelf.Signed.{ints, toZ-ofZ}
 use Rattle.rows.proofs.valuation.product.Needs as need
 

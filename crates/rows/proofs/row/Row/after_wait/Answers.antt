@@ -1,4 +1,4 @@
-use mathlib.Core.Path.{_≡_, subst, sym}
+use mathlib.Core.Path.{subst, sym}
 use Rattle.std.proofs.shelf.Tests.{eq-eqb, cond-true}
 use Rattle.rows.specs.Moves.{Says-after-wait}
 use Rattle.rows.proofs.Moves.{says-after-wait}

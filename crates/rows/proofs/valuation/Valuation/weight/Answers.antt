@@ -1,5 +1,5 @@
 use native.Mathlib.Omega.{arith}
-use mathlib.Core.Path.{_≡_, sym}
+use mathlib.Core.Path.{sym}
 use Rattle.std.proofs.shelf.Tests.{ltb-false}
 use Rattle.rows.proofs.Valuations.{weight-of-past}
 use Rattle.rows.proofs.valuation.Valuation.weight.Needs as need
