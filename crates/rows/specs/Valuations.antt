@@ -49,7 +49,7 @@ is-in-range n scale values = eqb (length values) n && (leb 1 scale && (leb scale
 -- what coefficient number c multiplies
 abbrev pub weight-of : ℕ → List ℕ → ℕ → ℕ
 weight-of scale values zero = scale
-weight-of scale values (suc c) = getD values c 0
+weight-of scale values (suc c) = value-of values (suc c)
 
 abbrev pub is-ordered : Bool → ℤ → ℤ → Bool
 is-ordered true a b = ltZ a b

@@ -1,6 +1,6 @@
 ghost use mathlib.Core.Path.{_≡_};
 ghost use Rattle.std.specs.Orderings.{Decides};
-ghost use Rattle.rows.specs.Lawful.{Lawful-marks, Lawful-bound, Lawful, is-within-limit, is-lawful-coefficient, are-lawful-coefficients, has-lawful-marks, has-lawful-bound, is-lawful};
+ghost use Rattle.rows.specs.Lawful.{Lawful-marks, Lawful-bound, Lawful, is-within-limit, is-lawful-coefficient, has-lawful-marks, has-lawful-bound, is-lawful};
 
 /// The bound xi − xj ≤ t0·k + t1·p1 + … + t6·p6, or < when strict: k is the scale, p1 to p6 are the parameters.
 ///
@@ -29,17 +29,6 @@ fn is_lawful_coefficient(parameters: u8, c: usize, z: i32) -> bool
     is_within_limit(z) && (c <= parameters as usize || z == 0)
 }
 
-fn are_lawful_coefficients(parameters: u8, t: &[i32; 7]) -> bool
-    ensures { λ r. ⌜ r ≡ are-lawful-coefficients parameters 0 (now (t .entry)) ⌝ }
-{
-    for (c, z) in t.iter().enumerate() {
-        if !is_lawful_coefficient(parameters, c, *z) {
-            return false;
-        }
-    }
-    true
-}
-
 impl Row {
     fn has_lawful_marks(&self, clocks: u8) -> bool
         ensures decides { λ r. ⌜ Decides r (Lawful-marks clocks (now (self .entry))) ⌝ }
@@ -52,7 +41,12 @@ impl Row {
         ensures decides { λ r. ⌜ Decides r (Lawful-bound parameters (now (self .entry))) ⌝ }
         ensures value { λ r. ⌜ r ≡ has-lawful-bound parameters (now (self .entry)) ⌝ }
     {
-        are_lawful_coefficients(parameters, &self.t)
+        for (c, z) in self.t.iter().enumerate() {
+            if !is_lawful_coefficient(parameters, c, *z) {
+                return false;
+            }
+        }
+        true
     }
 
     /// Whether both marks are at most the number of clocks, and differ or are both 0; and the coefficients are within
