@@ -1,9 +1,10 @@
--- What a reset and a wait do to the clocks, and the rows that say it beforehand or afterwards.
-use mathlib.Core.Path.{refl}
-use mathlib.Core.Bool.{Bool, false, cond}
+-- Sets of clocks, what a reset and a wait do to the clocks, and the rows that say it beforehand or afterwards.
+use mathlib.Core.Path.{_≡_, refl}
+use mathlib.Core.Bool.{Bool, true, false, cond, not, _&&_, _||_}
+use mathlib.Core.List.{List, [], _∷_}
 use mathlib.Core.Logic.{_↔_}
 use Prim.Native.Nat.{ℕ, zero, suc, _+_, _≤_}
-use lib.Dec.{eqb}
+use lib.Dec.{eqb, ltb}
 use lib.ListN.{getD}
 use Rattle.rows.specs.declared.row.Row.{Row}
 use Rattle.rows.specs.declared.clock_set.ClockSet.{ClockSet}
@@ -17,6 +18,10 @@ Clocks = ℕ → ℕ
 abbrev pub has : ClockSet → ℕ → Bool
 has set zero = false
 has set (suc c) = getD (set .members) c false
+
+-- every clock of the set is at most m
+abbrev pub Within-clocks : ℕ → ClockSet → Type 0
+Within-clocks m set = (c : ℕ) → has set c ≡ true → c ≤ m
 
 -- the clocks as marks
 abbrev pub marks : Clocks → ℕ → ℕ
@@ -71,3 +76,13 @@ Says-before-reset set r q = (s : Setting) (w : Clocks) → Holds (at s w) q ↔ 
 -- q holds after a wait exactly when r held before it, if the marks of r are mark 0 and clocks
 abbrev pub Says-after-wait : Row → Row → Type 0
 Says-after-wait r q = r .i ≤ 6 → r .j ≤ 6 → (s : Setting) (w : Clocks) (d : ℕ) → Holds (waited s w d) q ↔ Holds (at s w) r
+
+-- the same as tests, for definitions that have to decide
+
+-- the members from place c on, where clock c + 1 stands, are within the first m clocks
+abbrev pub are-within-clocks : ℕ → ℕ → List Bool → Bool
+are-within-clocks m c [] = true
+are-within-clocks m c (b ∷ bs) = (not b || ltb c m) && are-within-clocks m (suc c) bs
+
+abbrev pub is-within-clocks : ℕ → ClockSet → Bool
+is-within-clocks m set = are-within-clocks m 0 (set .members)

@@ -1,5 +1,8 @@
 ghost use mathlib.Core.Path.{_≡_};
-ghost use Rattle.rows.specs.Moves.{Clocks, marks, has, after-reset, mark-before-reset};
+ghost use mathlib.Core.Bool.{not, _||_};
+ghost use lib.Dec.{ltb};
+ghost use Rattle.std.specs.Orderings.{Decides};
+ghost use Rattle.rows.specs.Moves.{Clocks, marks, has, Within-clocks, is-within-clocks, after-reset, mark-before-reset};
 
 /// The most clocks that a model may have.
 pub const CLOCKS: usize = 6;
@@ -8,6 +11,13 @@ pub const CLOCKS: usize = 6;
 #[derive(Clone, Copy)]
 pub struct ClockSet {
     pub members: [bool; CLOCKS],
+}
+
+// Whether place c, where clock c + 1 stands, is empty or is that of one of the first so many clocks.
+fn is_within_clocks(clocks: u8, c: usize, member: bool) -> bool
+    ensures { λ r. ⌜ r ≡ (not member || ltb c clocks) ⌝ }
+{
+    !member || c < clocks as usize
 }
 
 impl ClockSet {
@@ -20,6 +30,26 @@ impl ClockSet {
             return false;
         }
         self.members[c - 1]
+    }
+
+    /// Whether the set has none but the first so many clocks.
+    pub fn is_within(&self, clocks: u8) -> bool
+        ensures decides { λ r. ⌜ Decides r (Within-clocks clocks (now (self .entry))) ⌝ }
+        ensures value { λ r. ⌜ r ≡ is-within-clocks clocks (now (self .entry)) ⌝ }
+    {
+        self.has_only(clocks)
+    }
+
+    fn has_only(&self, clocks: u8) -> bool
+        ensures decides { λ r. ⌜ Decides r (Within-clocks clocks (now (self .entry))) ⌝ }
+        ensures value { λ r. ⌜ r ≡ is-within-clocks clocks (now (self .entry)) ⌝ }
+    {
+        for (c, member) in self.members.iter().enumerate() {
+            if !is_within_clocks(clocks, c, *member) {
+                return false;
+            }
+        }
+        true
     }
 
     // The mark with the clocks of the set replaced by mark 0.

@@ -1,0 +1,4 @@
+pub mod Lists
+pub mod Fronts
+pub mod Grouping
+pub mod Placing

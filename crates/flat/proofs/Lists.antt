@@ -1,0 +1,56 @@
+-- What the lists say: the rows of an owner, one entry at a time, and the largest number of them.
+use mathlib.Core.Path.{_≡_, refl, sym, ap, _∙_}
+use mathlib.Core.Bool.{Bool, true, false, cond}
+use mathlib.Core.List.{List, [], _∷_, _++_, map}
+use mathlib.Core.Logic.{inl, inr}
+use Prim.Native.Nat.{ℕ, zero, suc, max, _+_, _≤_, _<_}
+use native.Mathlib.Omega.{arith}
+use lib.Dec.{eqb}
+use lib.ListN.{length, getD, take, drop}
+use Rattle.std.specs.shelf.Lists.{kept-by}
+use Rattle.std.proofs.shelf.Elements.{kept-by-append, kept-by-more}
+use Rattle.std.proofs.shelf.Lists.{append-nil, map-append, length-map, length-append, length-push, take-append-drop}
+use Rattle.std.proofs.shelf.Tests.{cases-lt, cond-true, eq-eqb}
+use Rattle.rows.specs.declared.row.Row.{Row}
+use Rattle.flat.specs.declared.description.OwnedRow.{OwnedRow}
+use Rattle.flat.specs.Lists.{rows-of, largest, most-rows}
+
+pub largest-bound : (f : ℕ → ℕ) (n b : ℕ) → ((q : ℕ) → q < n → f q ≤ b) → largest f n ≤ b
+largest-bound f zero b h = omega arith
+largest-bound f (suc n) b h =
+    let i = h n (omega arith) in
+    let j = largest-bound f n b (λ q l. h q (omega arith)) in
+    omega arith
+
+pub largest-has : (f : ℕ → ℕ) (n q : ℕ) → q < n → f q ≤ largest f n
+largest-has f zero q l = absurd (omega arith)
+largest-has f (suc n) q l = elim (cases-lt q n) [ inl k ↦ (let i = largest-has f n q k in omega arith) | inr k ↦ (let e : f q ≡ f n = ap f (omega arith) in omega arith) ]
+
+pub largest-like : (f g : ℕ → ℕ) (n : ℕ) → ((q : ℕ) → f q ≡ g q) → largest f n ≡ largest g n
+largest-like f g zero h = refl
+largest-like f g (suc n) h = ap (λ x. max x (largest f n)) (h n) ∙ ap (max (g n)) (largest-like f g n h)
+
+joined : (r : Row) (b : Bool) (xs : List OwnedRow) (e : OwnedRow) → e .row ≡ r
+    → map (λ x. x .row) (xs ++ cond b (e ∷ []) []) ≡ cond b (map (λ x. x .row) xs ++ r ∷ []) (map (λ x. x .row) xs)
+joined r true xs e h = map-append (λ x. x .row) xs (e ∷ []) ∙ ap (λ x. map (λ y. y .row) xs ++ x ∷ []) h
+joined r false xs e h = map-append (λ x. x .row) xs [] ∙ append-nil (map (λ x. x .row) xs)
+
+pub rows-of-more : (q : ℕ) (es : List OwnedRow) (i : ℕ) (d : OwnedRow) → i < length es
+    → rows-of q (take (i + 1) es) ≡ cond (eqb (getD es i d .owner) q) (rows-of q (take i es) ++ getD es i d .row ∷ []) (rows-of q (take i es))
+rows-of-more q es i d l =
+    ap (map (λ x. x .row)) (kept-by-more (λ e. eqb (e .owner) q) es i d l)
+    ∙ joined (getD es i d .row) (eqb (getD es i d .owner) q) (kept-by (λ e. eqb (e .owner) q) (take i es)) (getD es i d) refl
+
+-- a part of the list has no more rows of an owner than the whole
+pub rows-of-part : (q : ℕ) (es : List OwnedRow) (i : ℕ) → length (rows-of q (take i es)) ≤ length (rows-of q es)
+rows-of-part q es i =
+    let p : OwnedRow → Bool = λ e. eqb (e .owner) q in
+    let whole = ap (λ xs. length (kept-by p xs)) (sym (take-append-drop i es)) ∙ ap length (kept-by-append p (take i es) (drop i es)) ∙ length-append (kept-by p (take i es)) (kept-by p (drop i es)) in
+    omega (arith, whole, length-map (kept-by p (take i es)) (λ x. x .row), length-map (kept-by p es) (λ x. x .row))
+
+-- the owner of the next entry has one row more
+pub rows-of-next : (es : List OwnedRow) (i : ℕ) (d : OwnedRow) → i < length es → length (rows-of (getD es i d .owner) (take i es)) < length (rows-of (getD es i d .owner) es)
+rows-of-next es i d l =
+    let o = getD es i d .owner in
+    let more = ap length (rows-of-more o es i d l ∙ cond-true (eqb o o) (rows-of o (take i es) ++ getD es i d .row ∷ []) (rows-of o (take i es)) (eq-eqb o o refl)) in
+    omega (arith, more, length-push (rows-of o (take i es)) (getD es i d .row), rows-of-part o es (i + 1))

@@ -1,0 +1,4 @@
+pub mod Tables
+pub mod Shut
+pub mod Runs
+pub mod Laws
