@@ -1,19 +1,21 @@
--- What the lists say: the rows of an owner, one entry at a time, and the largest number of them.
+-- What the lists say: the rows of an owner, one entry at a time, the largest number of them, and the actions of the edges.
 use mathlib.Core.Path.{_≡_, refl, sym, ap, _∙_}
-use mathlib.Core.Bool.{Bool, true, false, cond}
+use mathlib.Core.Bool.{Bool, true, false, cond, _&&_, _||_}
 use mathlib.Core.List.{List, [], _∷_, _++_, map}
 use mathlib.Core.Logic.{inl, inr}
 use Prim.Native.Nat.{ℕ, zero, suc, max, _+_, _≤_, _<_}
 use native.Mathlib.Omega.{arith}
-use lib.Dec.{eqb}
+use lib.Dec.{eqb, leb}
 use lib.ListN.{length, getD, take, drop}
 use Rattle.std.specs.shelf.Lists.{kept-by}
 use Rattle.std.proofs.shelf.Elements.{kept-by-append, kept-by-more}
-use Rattle.std.proofs.shelf.Lists.{append-nil, map-append, length-map, length-append, length-push, take-append-drop}
+use Rattle.std.proofs.shelf.Lists.{append-nil, map-append, length-map, length-append, length-push, take-append-drop, take-more}
 use Rattle.std.proofs.shelf.Tests.{cases-lt, cond-true, eq-eqb}
+use Rattle.std.proofs.shelf.Ways.{tells}
 use Rattle.rows.specs.declared.row.Row.{Row}
+use Rattle.models.specs.declared.edge.Edge.{Edge}
 use Rattle.flat.specs.declared.description.OwnedRow.{OwnedRow}
-use Rattle.flat.specs.Lists.{rows-of, largest, most-rows}
+use Rattle.flat.specs.Lists.{rows-of, largest, carries, uses-action}
 
 pub largest-bound : (f : ℕ → ℕ) (n b : ℕ) → ((q : ℕ) → q < n → f q ≤ b) → largest f n ≤ b
 largest-bound f zero b h = omega arith
@@ -54,3 +56,18 @@ rows-of-next es i d l =
     let o = getD es i d .owner in
     let more = ap length (rows-of-more o es i d l ∙ cond-true (eqb o o) (rows-of o (take i es) ++ getD es i d .row ∷ []) (rows-of o (take i es)) (eq-eqb o o refl)) in
     omega (arith, more, length-push (rows-of o (take i es)) (getD es i d .row), rows-of-part o es (i + 1))
+
+carries-push : (es : List Edge) (e : Edge) (x : ℕ) → carries (es ++ e ∷ []) x ≡ (carries es x || eqb (e .action) x)
+carries-push [] e x = grind arith
+carries-push (y ∷ ys) e x = let h = carries-push ys e x in grind arith
+
+-- one edge more
+pub uses-action-more : (es : List Edge) (i : ℕ) (d : Edge) (x : ℕ) → i < length es
+    → uses-action (take (i + 1) es) x ≡ (uses-action (take i es) x || ((leb 1 (getD es i d .action) && leb (getD es i d .action) 15) && eqb (getD es i d .action) x))
+uses-action-more es i d x l =
+    let a = getD es i d .action in
+    let h : carries (take (i + 1) es) x ≡ (carries (take i es) x || eqb a x) = ap (λ ys. carries ys x) (take-more es i d l) ∙ carries-push (take i es) (getD es i d) x in
+    ap (λ b. (leb 1 x && leb x 15) && b) h ∙ spread (carries (take i es) x) a
+  where
+    spread : (b : Bool) (a : ℕ) → ((leb 1 x && leb x 15) && (b || eqb a x)) ≡ (((leb 1 x && leb x 15) && b) || ((leb 1 a && leb a 15) && eqb a x))
+    spread b a = grind (arith, tells)

@@ -1,3 +1,4 @@
 pub mod Lists
 pub mod Sound
 pub mod Groups
+pub mod Indexes

@@ -1,8 +1,16 @@
 //! The flat model: a model that stands on four lists.
+mod actions;
 mod description;
+mod flat;
 mod group;
 mod groups;
+mod index;
+mod indexing;
+mod lookup;
+mod model;
 
 pub use description::Description;
 pub use description::Location;
 pub use description::OwnedRow;
+pub use flat::Flat;
+pub use model::FlatModel;

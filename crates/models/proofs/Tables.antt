@@ -1,8 +1,9 @@
--- The tests of a table's numbers and edges decide their limits.
+-- The tests of a table's numbers and edges decide their limits, and the shut model keeps all of them.
 use mathlib.Core.Path.{_≡_}
 use mathlib.Core.Bool.{true}
 use Prim.Native.Nat.{_≤_, _<_}
 use native.Mathlib.Omega.{arith}
+use borrow.Author.Needs.{needs}
 use lib.Dec.{leb, ltb}
 use Rattle.std.specs.Orderings.{Decides}
 use Rattle.std.proofs.shelf.Tests.{lt-ltb, le-leb, and-from}
@@ -11,7 +12,8 @@ use Rattle.rows.specs.Moves.{is-within-clocks}
 use Rattle.rows.proofs.Clocks.{within-clocks-decides}
 use Rattle.models.specs.declared.edge.Shape.{Shape}
 use Rattle.models.specs.declared.edge.Edge.{Edge}
-use Rattle.models.specs.Tables.{Shape-limits, Edge-limits, is-within-limits, is-admitted}
+use Rattle.models.specs.Tables.{Shape-limits, Edge-limits, Limits, is-within-limits, is-admitted}
+use Rattle.models.specs.Shut.{shut-table}
 
 pub within-limits-decides : (h : Shape) → Decides (is-within-limits h) (Shape-limits h)
 within-limits-decides h = (
@@ -48,3 +50,6 @@ admitted-decides h e =
           let r = w .1 (l .resets) in
           grind (arith, tells),
     )
+
+pub shut-limits : Limits shut-table
+shut-limits = search needs

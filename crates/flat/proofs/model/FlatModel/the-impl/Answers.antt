@@ -1,0 +1,5 @@
+use Rattle.flat.proofs.Sound.{flat-limits}
+use Rattle.flat.proofs.model.FlatModel.the-impl.Needs as need
+
+pub limits-law : need.limits-law
+limits-law x = flat-limits (x .lists)

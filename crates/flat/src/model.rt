@@ -1,0 +1,108 @@
+ghost use mathlib.Core.Path.{_≡_};
+ghost use Rattle.std.specs.Orderings.{Decides};
+ghost use Rattle.std.specs.Options.{isSome, mapped};
+ghost use Rattle.std.specs.Vec.{made, refused};
+ghost use Rattle.models.specs.Shut.{shut-table};
+ghost use Rattle.flat.specs.Lists.{table-of};
+ghost use Rattle.flat.specs.Sound.{Sound, flat-table};
+ghost use Rattle.flat.specs.Indexes.{Alike, table-by};
+use crate::description::Description;
+use crate::flat::Flat;
+use crate::index::Index;
+use models::Edge;
+use models::Model;
+use models::Shape;
+use models::Shut;
+use models::ShutModel;
+use rows::Row;
+use std::alloc::Global;
+use std::alloc::Refused;
+
+impl Flat {
+    /// The flat model on the lists; if there is no memory for it, the lists are handed back.
+    pub fn new(heap: Global, lists: Description) -> Result<Flat, Refused<Description>>
+        ensures table { λ r. ⌜ made r (λ f. flat-table (f .lists) ≡ flat-table lists) ⌝ }
+        ensures sound { λ r. ⌜ (Sound lists → made r (λ f. flat-table (f .lists) ≡ table-of lists)) ⌝ }
+        ensures shut { λ r. ⌜ ((Sound lists → ⊥) → made r (λ f. flat-table (f .lists) ≡ shut-table)) ⌝ }
+        ensures refused { λ r. ⌜ refused r (λ e. e .value ≡ lists) ⌝ }
+    {
+        match Index::new(heap, &lists) {
+            Ok(index) => Ok(Flat { lists, index }),
+            Err(_) => Err(Refused { value: lists }),
+        }
+    }
+
+    fn index(&self) -> Option<&Index>
+        ensures decides { λ r. ⌜ Decides (isSome r) (Sound (now (self .entry) .lists)) ⌝ }
+        ensures answers { λ r. ⌜ Alike (table-by (now (self .entry) .lists) (mapped (λ i. i .now) r)) (flat-table (now (self .entry) .lists)) ⌝ }
+    {
+        self.index.as_ref()
+    }
+
+    /// Whether the lists make a model; if not, this is the shut model.
+    pub fn is_sound(&self) -> bool
+        ensures decides { λ r. ⌜ Decides r (Sound (now (self .entry) .lists)) ⌝ }
+    {
+        self.index().is_some()
+    }
+}
+
+pub impl Model for Flat as FlatModel {
+    ghost table = { λ f. flat-table (f .lists) };
+
+    fn shape(&self) -> Shape {
+        match self.index() {
+            Some(index) => index.shape,
+            None => Shut.shape(),
+        }
+    }
+
+    fn uses(&self, action: u8) -> bool {
+        match self.index() {
+            Some(index) => index.actions.has(action),
+            None => Shut.uses(action),
+        }
+    }
+
+    fn bad(&self, location: u8) -> bool {
+        match self.index() {
+            Some(_) => self.lists.is_bad(location),
+            None => Shut.bad(location),
+        }
+    }
+
+    fn invariant_count(&self, location: u8) -> u8 {
+        match self.index() {
+            Some(index) => index.invariants.count(location as u16),
+            None => Shut.invariant_count(location),
+        }
+    }
+
+    fn invariant_row(&self, location: u8, k: u8) -> Option<Row> {
+        match self.index() {
+            Some(index) => index.invariants.row(location as u16, k),
+            None => Shut.invariant_row(location, k),
+        }
+    }
+
+    fn edge(&self, slot: u16) -> Option<Edge> {
+        match self.index() {
+            Some(_) => self.lists.edge(slot),
+            None => Shut.edge(slot),
+        }
+    }
+
+    fn guard_count(&self, slot: u16) -> u8 {
+        match self.index() {
+            Some(index) => index.guards.count(slot),
+            None => Shut.guard_count(slot),
+        }
+    }
+
+    fn guard_row(&self, slot: u16, k: u8) -> Option<Row> {
+        match self.index() {
+            Some(index) => index.guards.row(slot, k),
+            None => Shut.guard_row(slot, k),
+        }
+    }
+}
