@@ -27,12 +27,15 @@ listed-added gs i g h row r l e p q = elim (cases-eq i q) [ inl k ↦ here k | i
   where
     chosen : (b : Bool) → eqb i q ≡ b → cond (r && b) (listed-in (nth gs q) ++ row ∷ []) (listed-in (nth gs q)) ≡ cond (r && eqb i q) (listed-in (nth gs q) ++ row ∷ []) (listed-in (nth gs q))
     chosen b d = ap (λ x. cond (r && x) (listed-in (nth gs q) ++ row ∷ []) (listed-in (nth gs q))) (sym d)
+
     yes : (t : Bool) (x y : List Row) → cond t x y ≡ cond (t && true) x y
     yes true x y = refl
     yes false x y = refl
+
     no : (t : Bool) (x y : List Row) → y ≡ cond (t && false) x y
     no true x y = refl
     no false x y = refl
+
     here : i ≡ q → listed-in (nth (set gs i h) q) ≡ cond (r && eqb i q) (listed-in (nth gs q) ++ row ∷ []) (listed-in (nth gs q))
     here k =
         ap (λ x. listed-in (nth (set gs i h) x)) (sym k)
@@ -41,5 +44,6 @@ listed-added gs i g h row r l e p q = elim (cases-eq i q) [ inl k ↦ here k | i
         ∙ ap (λ x. cond r (x ++ row ∷ []) x) (sym e ∙ ap (λ x. listed-in (nth gs x)) k)
         ∙ yes r (listed-in (nth gs q) ++ row ∷ []) (listed-in (nth gs q))
         ∙ chosen true (eq-eqb i q k)
+
     elsewhere : (i ≡ q → ⊥) → listed-in (nth (set gs i h) q) ≡ cond (r && eqb i q) (listed-in (nth gs q) ++ row ∷ []) (listed-in (nth gs q))
     elsewhere k = ap listed-in (nth-set-other gs i q h k) ∙ no r (listed-in (nth gs q) ++ row ∷ []) (listed-in (nth gs q)) ∙ chosen false (ne-eqb i q k)

@@ -55,8 +55,10 @@ module _ (n m p : ℕ) (es : List OwnedRow) (i : ℕ) where
     where
       refused : false ≡ (is-owned n m p (getD es i d) && ltb (length (group-at gs (getD es i d .owner))) 8)
       refused = e ∙ ap (λ x. is-owned x m p (getD es i d) && ltb (length (group-at gs (getD es i d .owner))) 8) c
+
       unowned : is-owned n m p (getD es i d) ≡ false → is-grouped n m p es ≡ false
       unowned k = and-left (are-owned n m p es) (leb (most-rows n es) 8) (sym a ∙ more d l ∙ and-left _ (are-owned n m p (drop (i + 1) es)) k)
+
       crowded : is-owned n m p (getD es i d) ≡ true → is-grouped n m p es ≡ false
       crowded k =
           let o = getD es i d .owner in
@@ -73,8 +75,7 @@ module _ (n m p : ℕ) (es : List OwnedRow) (i : ℕ) where
       → ((q : ℕ) → group-at hs q ≡ cond (true && eqb (getD es i d .owner) q) (group-at gs q ++ getD es i d .row ∷ []) (group-at gs q))
       → (vec-len (hs .each) ≡ n) × (are-owned n m p (drop (i + 1) es) ≡ are-owned n m p es) × ((q : ℕ) → group-at hs q ≡ rows-of q (take (i + 1) es))
   placed-more gs hs d l (c, a, h) e s f =
-      let k : is-owned n m p (getD es i d) ≡ true = ap (λ x. is-owned x m p (getD es i d)) (sym c) ∙ and-parts _ (ltb (length (group-at gs (getD es i d .owner))) 8) (sym e) .0 in
-      (
+      let k : is-owned n m p (getD es i d) ≡ true = ap (λ x. is-owned x m p (getD es i d)) (sym c) ∙ and-parts _ (ltb (length (group-at gs (getD es i d .owner))) 8) (sym e) .0 in (
         s ∙ c,
         ap (λ b. b && are-owned n m p (drop (i + 1) es)) (sym k) ∙ sym (more d l) ∙ a,
         λ q. f q ∙ ap (λ xs. cond (eqb (getD es i d .owner) q) (xs ++ getD es i d .row ∷ []) xs) (h q) ∙ sym (rows-of-more q es i d l),
@@ -83,8 +84,7 @@ module _ (n m p : ℕ) (es : List OwnedRow) (i : ℕ) where
   -- every entry is in its group
   pub placed-all : (gs : Groups) → length es ≤ i → Placed gs → (is-grouped n m p es ≡ true) × Grouped n es gs
   placed-all gs l (c, a, h) =
-      let each : (q : ℕ) → group-at gs q ≡ rows-of q es = λ q. h q ∙ ap (rows-of q) (take-all i es l) in
-      (
+      let each : (q : ℕ) → group-at gs q ≡ rows-of q es = λ q. h q ∙ ap (rows-of q) (take-all i es l) in (
         and-from (are-owned n m p es) (leb (most-rows n es) 8) (sym a ∙ at-drop-all (are-owned n m p) es i l) (le-leb (most-rows n es) 8 (few-rows n es gs each)),
         record { count = c; each = each },
       )

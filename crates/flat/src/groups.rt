@@ -99,7 +99,13 @@ impl Groups {
 
     // The rows of the list by their owners, of whom there are so many; none where a row is of nobody or not lawful, or
     // an owner has too many.
-    pub(crate) fn new(heap: Global, owners: usize, clocks: u8, parameters: u8, entries: &[OwnedRow]) -> Result<Option<Groups>, AllocError>
+    pub(crate) fn new(
+        heap: Global,
+        owners: usize,
+        clocks: u8,
+        parameters: u8,
+        entries: &[OwnedRow],
+    ) -> Result<Option<Groups>, AllocError>
         ensures made { λ r. ⌜ made r (λ o. BySome o (is-grouped owners clocks parameters (now (entries .entry)) ≡ false) (λ gs. (is-grouped owners clocks parameters (now (entries .entry)) ≡ true) × Grouped owners (now (entries .entry)) gs)) ⌝ }
     {
         let mut groups = Groups::empty(heap, owners)?;

@@ -43,10 +43,18 @@ impl Index {
         if locations > LOCATIONS as usize || slots > SLOTS as usize {
             return Ok(None);
         }
-        let Some(invariants) = Groups::new(heap, locations, lists.clocks, lists.parameters, &lists.invariants)? else {
+        let Some(invariants) = Groups::new(
+            heap,
+            locations,
+            lists.clocks,
+            lists.parameters,
+            &lists.invariants,
+        )?
+        else {
             return Ok(None);
         };
-        let Some(guards) = Groups::new(heap, slots, lists.clocks, lists.parameters, &lists.guards)? else {
+        let Some(guards) = Groups::new(heap, slots, lists.clocks, lists.parameters, &lists.guards)?
+        else {
             return Ok(None);
         };
         let shape = Shape {

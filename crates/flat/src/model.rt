@@ -19,9 +19,10 @@ use std::alloc::Global;
 use std::alloc::Refused;
 
 impl Flat {
-    /// The flat model on the lists; if there is no memory for it, the lists are handed back.
+    /// The flat model on the lists: its table is what they say if they are sound, else that of the shut model. If there
+    /// is no memory for it, the lists are handed back.
     pub fn new(heap: Global, lists: Description) -> Result<Flat, Refused<Description>>
-        ensures table { λ r. ⌜ made r (λ f. flat-table (f .lists) ≡ flat-table lists) ⌝ }
+        ensures value { λ r. ⌜ made r (λ f. f .lists ≡ lists) ⌝ }
         ensures sound { λ r. ⌜ (Sound lists → made r (λ f. flat-table (f .lists) ≡ table-of lists)) ⌝ }
         ensures shut { λ r. ⌜ ((Sound lists → ⊥) → made r (λ f. flat-table (f .lists) ≡ shut-table)) ⌝ }
         ensures refused { λ r. ⌜ refused r (λ e. e .value ≡ lists) ⌝ }
@@ -30,6 +31,13 @@ impl Flat {
             Ok(index) => Ok(Flat { lists, index }),
             Err(_) => Err(Refused { value: lists }),
         }
+    }
+
+    /// The lists that the model stands on, as they were given.
+    pub fn lists(&self) -> &Description
+        ensures value { λ r. ⌜ now r ≡ now (self .entry) .lists ⌝ }
+    {
+        &self.lists
     }
 
     fn index(&self) -> Option<&Index>

@@ -19,11 +19,11 @@ pub data Run (M : Table) (s : Setting) : State → Type 0 where
   begins : Meets (at-zero s) (M .invariant (M .shape .first)) → Run M s (record { location = M .shape .first; clocks = λ _. 0 })
   -- all clocks later by d, if the invariant holds then
   waits : {q : ℕ} {w : Clocks} → Run M s (record { location = q; clocks = w }) → (d : ℕ) → Meets (at s (later w d)) (M .invariant q)
-    → Run M s (record { location = q; clocks = later w d })
+      → Run M s (record { location = q; clocks = later w d })
   -- along the edge in slot k, if its guard holds, and after its resets the invariant of the target
   steps : {w : Clocks} {e : Edge} → Run M s (record { location = e .source; clocks = w }) → (k : ℕ) → M .edge k ≡ Some e → Meets (at s w) (M .guard k)
-    → Meets (at s (after-reset (e .resets) w)) (M .invariant (e .target))
-    → Run M s (record { location = e .target; clocks = after-reset (e .resets) w })
+      → Meets (at s (after-reset (e .resets) w)) (M .invariant (e .target))
+      → Run M s (record { location = e .target; clocks = after-reset (e .resets) w })
 
 -- no finite run of M reaches a bad location at the setting s
 abbrev pub Avoids-bad : Table → Setting → Type 0

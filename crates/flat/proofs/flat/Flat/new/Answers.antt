@@ -10,7 +10,7 @@ pub returns-in-Ok : need.returns-in-Ok
 returns-in-Ok c =
     let d = c .args .lists in
     record {
-      table = refl;
+      value = refl;
       sound = λ s. ap (λ b. table-if b d) (sound-decides d .1 s);
       shut = λ f. ap (λ b. table-if b d) (not-sound d f);
       refused = tt;
