@@ -1,0 +1,121 @@
+use crate::build::*;
+use flat::Description;
+use flat::Flat;
+use flat::FlatModel;
+use flat::OwnedRow;
+use models::Model;
+use std::alloc::AllocError;
+use std::alloc::Global;
+use std::test::*;
+
+// Three locations and three edges, two clocks and two parameters.
+fn three(heap: Global) -> Result<Description, AllocError> {
+    let mut given = lists(heap, 3, 3)?;
+    given.clocks = 2;
+    given.parameters = 2;
+    Ok(given)
+}
+
+// Each limit of a row, at it and past it.
+fn cases() -> [(OwnedRow, bool); 11] {
+    let p2 = [0, 0, 1, 0, 0, 0, 0];
+    let p3 = [0, 0, 0, 1, 0, 0, 0];
+    [
+        (owned(2, row(1, 0, 1)), true),
+        (owned(3, row(1, 0, 1)), false),
+        (owned(65_535, row(1, 0, 1)), false),
+        (owned(1, row(2, 0, 1)), true),
+        (owned(1, row(3, 0, 1)), false),
+        (owned(1, row(0, 3, 1)), false),
+        (owned(1, row(1, 1, 1)), false),
+        (owned(1, row(1, 0, 1_000_000)), true),
+        (owned(1, row(1, 0, 1_000_001)), false),
+        (owned(1, bound(p2)), true),
+        (owned(1, bound(p3)), false),
+    ]
+}
+
+// Whether the row, after another, makes a model or the shut model as an invariant.
+fn is_right_invariant(heap: Global, tried: OwnedRow, sound: bool) -> Result<bool, AllocError> {
+    let mut given = three(heap)?;
+    given.invariants = vec![in heap; owned(0, row(1, 0, 1)), tried]?;
+    gives(heap, given, sound)
+}
+
+fn is_right_guard(heap: Global, tried: OwnedRow, sound: bool) -> Result<bool, AllocError> {
+    let mut given = three(heap)?;
+    given.guards = vec![in heap; owned(0, row(1, 0, 1)), tried]?;
+    gives(heap, given, sound)
+}
+
+#[test]
+fn limits(rt: LibcRuntime) -> Result<(), Fail> {
+    for c in cases().iter() {
+        check(is_right_invariant(rt.alloc(), c.0, c.1)?)?;
+        check(is_right_guard(rt.alloc(), c.0, c.1)?)?;
+    }
+    Ok(())
+}
+
+// So many rows of owner 1, as invariants and as guards.
+fn crowded(heap: Global, count: usize) -> Result<Description, AllocError> {
+    let mut given = three(heap)?;
+    given.invariants = vec![in heap; owned(1, row(1, 0, 7)); count]?;
+    given.guards = vec![in heap; owned(1, row(1, 0, 7)); count]?;
+    Ok(given)
+}
+
+fn has_eight_of_one(model: &Flat) -> bool {
+    model.shape().invariants == 8
+        && model.shape().guards == 8
+        && model.invariant_count(0) == 0
+        && model.invariant_count(1) == 8
+        && is_row(model.invariant_row(1, 7), row(1, 0, 7))
+        && model.guard_count(1) == 8
+        && is_row(model.guard_row(1, 7), row(1, 0, 7))
+}
+
+#[test]
+fn eight_rows(rt: LibcRuntime) -> Result<(), Fail> {
+    let heap = rt.alloc();
+    check(has_eight_of_one(&Flat::new(heap, crowded(heap, 8)?)?))?;
+    check(gives(heap, crowded(heap, 9)?, false)?)
+}
+
+// Rows of owners 2, 0, 2, 0, as invariants and as guards.
+fn mixed(heap: Global) -> Result<Description, AllocError> {
+    let mut given = three(heap)?;
+    let entries = [
+        owned(2, row(1, 0, 1)),
+        owned(0, row(1, 0, 2)),
+        owned(2, row(1, 0, 3)),
+        owned(0, row(1, 0, 4)),
+    ];
+    given.invariants = Vec::from_slice(heap, &entries)?;
+    given.guards = Vec::from_slice(heap, &entries)?;
+    Ok(given)
+}
+
+fn keeps_order_of_invariants(model: &Flat) -> bool {
+    model.shape().invariants == 2
+        && is_row(model.invariant_row(0, 0), row(1, 0, 2))
+        && is_row(model.invariant_row(0, 1), row(1, 0, 4))
+        && model.invariant_count(1) == 0
+        && is_row(model.invariant_row(2, 0), row(1, 0, 1))
+        && is_row(model.invariant_row(2, 1), row(1, 0, 3))
+}
+
+fn keeps_order_of_guards(model: &Flat) -> bool {
+    model.shape().guards == 2
+        && is_row(model.guard_row(0, 0), row(1, 0, 2))
+        && is_row(model.guard_row(0, 1), row(1, 0, 4))
+        && model.guard_count(1) == 0
+        && is_row(model.guard_row(2, 0), row(1, 0, 1))
+        && is_row(model.guard_row(2, 1), row(1, 0, 3))
+}
+
+#[test]
+fn list_order_is_kept(rt: LibcRuntime) -> Result<(), Fail> {
+    let model = Flat::new(rt.alloc(), mixed(rt.alloc())?)?;
+    check(keeps_order_of_invariants(&model) && keeps_order_of_guards(&model))
+}
