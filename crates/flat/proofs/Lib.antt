@@ -2,6 +2,6 @@ pub mod Lists
 pub mod Fronts
 pub mod Grouping
 pub mod Placing
-pub mod Sound
+pub mod WellFormed
 pub mod Indexed
 pub mod Making

@@ -14,7 +14,7 @@ use Rattle.std.proofs.shelf.Tests.{cases-lt, cond-true, eq-eqb}
 use Rattle.std.proofs.shelf.Ways.{tells}
 use Rattle.rows.specs.declared.row.Row.{Row}
 use Rattle.models.specs.declared.edge.Edge.{Edge}
-use Rattle.flat.specs.declared.description.OwnedRow.{OwnedRow}
+use Rattle.flat.specs.declared.description.AttachedRow.{AttachedRow}
 use Rattle.flat.specs.Lists.{rows-of, largest, carries, uses-action}
 
 pub largest-bound : (f : ℕ → ℕ) (n b : ℕ) → ((q : ℕ) → q < n → f q ≤ b) → largest f n ≤ b
@@ -32,26 +32,31 @@ pub largest-like : (f g : ℕ → ℕ) (n : ℕ) → ((q : ℕ) → f q ≡ g q)
 largest-like f g zero h = refl
 largest-like f g (suc n) h = ap (λ x. max x (largest f n)) (h n) ∙ ap (max (g n)) (largest-like f g n h)
 
-joined : (r : Row) (b : Bool) (xs : List OwnedRow) (e : OwnedRow) → e .row ≡ r
+-- what is 0 does not count
+pub largest-rest : (f : ℕ → ℕ) (n k : ℕ) → n ≤ k → ((q : ℕ) → n ≤ q → f q ≡ 0) → largest f k ≡ largest f n
+largest-rest f n zero l h = let e : 0 ≡ n = omega arith in ap (largest f) e
+largest-rest f n (suc k) l h = elim (cases-lt k n) [ inl g ↦ (let e : suc k ≡ n = omega arith in ap (largest f) e) | inr g ↦ (let z = h k g in let e = largest-rest f n k g h in omega arith) ]
+
+joined : (r : Row) (b : Bool) (xs : List AttachedRow) (e : AttachedRow) → e .row ≡ r
     → map (λ x. x .row) (xs ++ cond b (e ∷ []) []) ≡ cond b (map (λ x. x .row) xs ++ r ∷ []) (map (λ x. x .row) xs)
 joined r true xs e h = map-append (λ x. x .row) xs (e ∷ []) ∙ ap (λ x. map (λ y. y .row) xs ++ x ∷ []) h
 joined r false xs e h = map-append (λ x. x .row) xs [] ∙ append-nil (map (λ x. x .row) xs)
 
-pub rows-of-more : (q : ℕ) (es : List OwnedRow) (i : ℕ) (d : OwnedRow) → i < length es
+pub rows-of-more : (q : ℕ) (es : List AttachedRow) (i : ℕ) (d : AttachedRow) → i < length es
     → rows-of q (take (i + 1) es) ≡ cond (eqb (getD es i d .owner) q) (rows-of q (take i es) ++ getD es i d .row ∷ []) (rows-of q (take i es))
 rows-of-more q es i d l =
     ap (map (λ x. x .row)) (kept-by-more (λ e. eqb (e .owner) q) es i d l)
     ∙ joined (getD es i d .row) (eqb (getD es i d .owner) q) (kept-by (λ e. eqb (e .owner) q) (take i es)) (getD es i d) refl
 
 -- a part of the list has no more rows of an owner than the whole
-pub rows-of-part : (q : ℕ) (es : List OwnedRow) (i : ℕ) → length (rows-of q (take i es)) ≤ length (rows-of q es)
+pub rows-of-part : (q : ℕ) (es : List AttachedRow) (i : ℕ) → length (rows-of q (take i es)) ≤ length (rows-of q es)
 rows-of-part q es i =
-    let p : OwnedRow → Bool = λ e. eqb (e .owner) q in
+    let p : AttachedRow → Bool = λ e. eqb (e .owner) q in
     let whole = ap (λ xs. length (kept-by p xs)) (sym (take-append-drop i es)) ∙ ap length (kept-by-append p (take i es) (drop i es)) ∙ length-append (kept-by p (take i es)) (kept-by p (drop i es)) in
     omega (arith, whole, length-map (kept-by p (take i es)) (λ x. x .row), length-map (kept-by p es) (λ x. x .row))
 
 -- the owner of the next entry has one row more
-pub rows-of-next : (es : List OwnedRow) (i : ℕ) (d : OwnedRow) → i < length es → length (rows-of (getD es i d .owner) (take i es)) < length (rows-of (getD es i d .owner) es)
+pub rows-of-next : (es : List AttachedRow) (i : ℕ) (d : AttachedRow) → i < length es → length (rows-of (getD es i d .owner) (take i es)) < length (rows-of (getD es i d .owner) es)
 rows-of-next es i d l =
     let o = getD es i d .owner in
     let more = ap length (rows-of-more o es i d l ∙ cond-true (eqb o o) (rows-of o (take i es) ++ getD es i d .row ∷ []) (rows-of o (take i es)) (eq-eqb o o refl)) in

@@ -2,45 +2,39 @@
 use mathlib.Core.Path.{_≡_, sym, ap, subst, _∙_}
 use mathlib.Core.Bool.{Bool, true, false, _&&_}
 use mathlib.Core.List.{List}
-use Prim.Native.Nat.{ℕ, _<_}
-use native.Mathlib.Omega.{arith}
+use Prim.Native.Nat.{ℕ, _≤_}
 use lib.Dec.{leb}
 use lib.ListN.{length, getD}
 use Rattle.std.specs.declared.option.Option.{Option}
 use Rattle.std.specs.declared.option.Option.the-variants.{Some, None}
-use Rattle.std.specs.Options.{Cases}
 use Rattle.std.specs.Of.Vec.{vec-items, vec-len}
-use Rattle.std.proofs.shelf.Tests.{both-ways, and-from, and-parts, le-leb}
-use Rattle.models.specs.declared.edge.Shape.{Shape}
+use Rattle.std.proofs.shelf.Tests.{both-ways, and-from, and-parts}
+use Rattle.models.specs.declared.shape.Shape.{Shape}
 use Rattle.models.specs.declared.edge.Edge.{Edge}
 use Rattle.models.specs.Tables.{is-within-limits}
 use Rattle.models.proofs.Tables.{within-limits-decides}
-use Rattle.flat.specs.declared.description.OwnedRow.{OwnedRow}
+use Rattle.flat.specs.declared.description.AttachedRow.{AttachedRow}
 use Rattle.flat.specs.declared.description.Description.{Description}
 use Rattle.flat.specs.declared.index.Index.{Index}
 use Rattle.flat.specs.declared.group.Groups.{Groups}
 use Rattle.flat.specs.Lists.{rows-of, largest, most-rows, uses-action, shape-of}
-use Rattle.flat.specs.Sound.{Sound, are-owned, are-admitted, is-sound, table-if}
-use Rattle.flat.specs.Groups.{group-at, is-grouped, Grouped}
+use Rattle.flat.specs.WellFormed.{Well-formed, are-attached, are-admitted, is-well-formed, table-if}
+use Rattle.flat.specs.Groups.{group-at, Blank, Grouped, is-grouped, Sorts}
 use Rattle.flat.specs.Indexes.{Indexes}
-use Rattle.flat.proofs.Lists.{largest-like}
-use Rattle.flat.proofs.Sound.{sound-decides, not-sound, all-owned-decides, all-admitted-decides}
+use Rattle.flat.proofs.Lists.{largest-like, largest-rest}
+use Rattle.flat.proofs.WellFormed.{well-formed-decides, not-well-formed, all-attached-decides, all-admitted-decides, rows-of-nobody}
 
 -- the largest group is as large as the most rows of an owner
-pub most-grouped : (n : ℕ) (es : List OwnedRow) (gs : Groups) → Grouped n es gs → largest (λ q. length (group-at gs q)) (vec-len (gs .each)) ≡ most-rows n es
-most-grouped n es gs h = ap (largest (λ q. length (group-at gs q))) (h .count) ∙ largest-like (λ q. length (group-at gs q)) (λ q. length (rows-of q es)) n (λ q. ap length (h .each q))
+most-grouped : (k m n : ℕ) (es : List AttachedRow) (gs : Groups) → is-grouped k m n es ≡ true → Grouped k es gs → largest (λ q. length (group-at gs q)) (vec-len (gs .each)) ≡ most-rows k es
+most-grouped k m n es gs e h =
+    let a = all-attached-decides k m n es .0 (and-parts (are-attached k m n es) (leb (most-rows k es) 8) e .0) in
+    largest-like (λ q. length (group-at gs q)) (λ q. length (rows-of q es)) (vec-len (gs .each)) (λ q. ap length (h .each q))
+    ∙ largest-rest (λ q. length (rows-of q es)) k (vec-len (gs .each)) (h .wide) (λ q l. ap length (rows-of-nobody k m n q es l a))
 
--- what is known of the groups of a list
-abbrev pub Found : ℕ → ℕ → ℕ → List OwnedRow → Option Groups → Type 0
-Found n m p es o = Cases o (is-grouped n m p es ≡ false) (λ gs. (is-grouped n m p es ≡ true) × Grouped n es gs)
-
--- the same, where the owners and the list are known under other names
-module _ (n k m p : ℕ) (es fs : List OwnedRow) (o : Option Groups) (e : n ≡ k) (f : es ≡ fs) where
-  moved : Found n m p es o → Found k m p fs o
-  moved h = subst (λ x. Found x m p fs o) e (subst (λ xs. Found n m p xs o) f h)
-
-  found-groups : (gs : Groups) → o ≡ Some gs → Found n m p es o → (is-grouped k m p fs ≡ true) × Grouped k fs gs
-  found-groups gs r h = subst (Found k m p fs) r (moved h)
+-- blank groups sort a list that is known under other names
+pub sorted : (j k m n : ℕ) (es fs : List AttachedRow) (gs : Groups) (o : Option Groups) → j ≡ k → es ≡ fs → j ≤ vec-len (gs .each) → ((q : ℕ) → length (group-at gs q) ≡ 0)
+    → (Blank j gs → Sorts j m n es o) → Sorts k m n fs o
+sorted j k m n es fs gs o e f l z h = subst (λ x. Sorts x m n fs o) e (subst (λ xs. Sorts j m n xs o) f (h (record { wide = l; each = z })))
 
 module _ (d : Description) where
   abbrev invariants-test : Bool
@@ -61,55 +55,39 @@ module _ (d : Description) where
       ap (λ a. shape-with a s i g) p ∙ ap (λ b. shape-with (shape-of d .locations) b i g) q ∙ ap (λ x. shape-with (shape-of d .locations) (shape-of d .slots) x g) r
       ∙ ap (shape-with (shape-of d .locations) (shape-of d .slots) (shape-of d .invariants)) t
 
-  -- both lists of rows have their groups, and the numbers are those of the lists
-  pub record Parts (is gs : Groups) (l s i g : ℕ) : Type 0 where
-    pub invariants-pass : invariants-test ≡ true
-    pub invariants : Grouped (length (vec-items (d .locations))) (vec-items (d .invariants)) is
-    pub guards-pass : guards-test ≡ true
-    pub guards : Grouped (length (vec-items (d .edges))) (vec-items (d .guards)) gs
-    pub shape : shape-with l s i g ≡ shape-of d
+  -- the numbers as they were found are those of the lists
+  pub shape-found : (is gs : Groups) (l s i g : ℕ) → l ≡ vec-len (d .locations) → s ≡ vec-len (d .edges)
+      → (invariants-test ≡ true) × Grouped (length (vec-items (d .locations))) (vec-items (d .invariants)) is
+      → (guards-test ≡ true) × Grouped (length (vec-items (d .edges))) (vec-items (d .guards)) gs
+      → i ≡ largest (λ q. length (group-at is q)) (vec-len (is .each)) → g ≡ largest (λ q. length (group-at gs q)) (vec-len (gs .each)) → shape-with l s i g ≡ shape-of d
+  shape-found is gs l s i g p q h j x y =
+      shape-made l s i g (p ∙ d .locations .ok .0) (q ∙ d .edges .ok .0)
+      (x ∙ most-grouped (length (vec-items (d .locations))) (d .clocks) (d .parameters) (vec-items (d .invariants)) is (h .0) (h .1))
+      (y ∙ most-grouped (length (vec-items (d .edges))) (d .clocks) (d .parameters) (vec-items (d .guards)) gs (j .0) (j .1))
 
-  pub parts : (is gs : Groups) (l s i g : ℕ) (o r : Option Groups) (es fs : List OwnedRow)
-      → l ≡ vec-len (d .locations) → s ≡ vec-len (d .edges) → es ≡ vec-items (d .invariants) → fs ≡ vec-items (d .guards)
-      → o ≡ Some is → Found l (d .clocks) (d .parameters) es o → r ≡ Some gs → Found s (d .clocks) (d .parameters) fs r
-      → i ≡ largest (λ q. length (group-at is q)) (vec-len (is .each)) → g ≡ largest (λ q. length (group-at gs q)) (vec-len (gs .each))
-      → Parts is gs l s i g
-  parts is gs l s i g o r es fs p q a b e u f v x y =
-      let n : l ≡ length (vec-items (d .locations)) = p ∙ d .locations .ok .0 in
-      let k : s ≡ length (vec-items (d .edges)) = q ∙ d .edges .ok .0 in
-      let h = found-groups l (length (vec-items (d .locations))) (d .clocks) (d .parameters) es (vec-items (d .invariants)) o n a is e u in
-      let j = found-groups s (length (vec-items (d .edges))) (d .clocks) (d .parameters) fs (vec-items (d .guards)) r k b gs f v in
-      record {
-        invariants-pass = h .0;
-        invariants = h .1;
-        guards-pass = j .0;
-        guards = j .1;
-        shape = shape-made l s i g n k (x ∙ most-grouped _ _ is (h .1)) (y ∙ most-grouped _ _ gs (j .1));
-      }
-
-  unfit : fits-test (shape-of d) ≡ false → Sound d → ⊥
+  unfit : fits-test (shape-of d) ≡ false → Well-formed d → ⊥
   unfit e h = both-ways (fits-test (shape-of d)) e (and-from _ _ (within-limits-decides (shape-of d) .1 (h .numbers)) (all-admitted-decides (shape-of d) (vec-items (d .edges)) .1 (h .edges)))
 
-  fit : fits-test (shape-of d) ≡ true → invariants-test ≡ true → guards-test ≡ true → Sound d
+  fit : fits-test (shape-of d) ≡ true → invariants-test ≡ true → guards-test ≡ true → Well-formed d
   fit e i g =
       let n = length (vec-items (d .locations)) in
       let k = length (vec-items (d .edges)) in
       let f = and-parts (is-within-limits (shape-of d)) (are-admitted (shape-of d) (vec-items (d .edges))) e in
-      let a = and-parts (are-owned n (d .clocks) (d .parameters) (vec-items (d .invariants))) (leb (shape-of d .invariants) 8) i .0 in
-      let b = and-parts (are-owned k (d .clocks) (d .parameters) (vec-items (d .guards))) (leb (shape-of d .guards) 8) g .0 in
+      let a = and-parts (are-attached n (d .clocks) (d .parameters) (vec-items (d .invariants))) (leb (shape-of d .invariants) 8) i .0 in
+      let b = and-parts (are-attached k (d .clocks) (d .parameters) (vec-items (d .guards))) (leb (shape-of d .guards) 8) g .0 in
       record {
         numbers = within-limits-decides (shape-of d) .0 (f .0);
         edges = all-admitted-decides (shape-of d) (vec-items (d .edges)) .0 (f .1);
-        invariants = all-owned-decides n (d .clocks) (d .parameters) (vec-items (d .invariants)) .0 a;
-        guards = all-owned-decides k (d .clocks) (d .parameters) (vec-items (d .guards)) .0 b;
+        invariants = all-attached-decides n (d .clocks) (d .parameters) (vec-items (d .invariants)) .0 a;
+        guards = all-attached-decides k (d .clocks) (d .parameters) (vec-items (d .guards)) .0 b;
       }
 
-  -- lists that are not sound have no index
-  none : (Sound d → ⊥) → Indexes d None
+  -- lists that are not well-formed have no index
+  none : (Well-formed d → ⊥) → Indexes d None
   none f =
-      let e = sym (not-sound d f) in
+      let e = sym (not-well-formed d f) in
       record {
-        sound = e;
+        well-formed = e;
         answers = record {
           shape = ap (λ b. table-if b d .shape) e;
           uses = λ x. ap (λ b. table-if b d .uses x) e;
@@ -127,7 +105,7 @@ module _ (d : Description) where
   pub none-unfit : (h : Shape) (es : List Edge) → h ≡ shape-of d → es ≡ vec-items (d .edges) → false ≡ (is-within-limits h && are-admitted h es) → Indexes d None
   none-unfit h es p q e = none (unfit (tested h es false p q e))
 
-  -- what is found of sound lists is their index
+  -- what is found of well-formed lists is their index
   pub some-index : (i : Index) (es : List Edge) → i .shape ≡ shape-of d → es ≡ vec-items (d .edges) → true ≡ (is-within-limits (i .shape) && are-admitted (i .shape) es)
       → invariants-test ≡ true → guards-test ≡ true
       → Grouped (length (vec-items (d .locations))) (vec-items (d .invariants)) (i .invariants)
@@ -135,9 +113,9 @@ module _ (d : Description) where
       → ((x : ℕ) → getD (i .actions .members) x false ≡ uses-action (vec-items (d .edges)) x)
       → Indexes d (Some i)
   some-index i es p q f a b u v w =
-      let e : true ≡ is-sound d = sym (sound-decides d .1 (fit (tested (i .shape) es true p q f) a b)) in
+      let e : true ≡ is-well-formed d = sym (well-formed-decides d .1 (fit (tested (i .shape) es true p q f) a b)) in
       record {
-        sound = e;
+        well-formed = e;
         answers = record {
           shape = p ∙ ap (λ t. table-if t d .shape) e;
           uses = λ x. w x ∙ ap (λ t. table-if t d .uses x) e;

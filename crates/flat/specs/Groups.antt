@@ -1,20 +1,21 @@
--- The rows that groups list.
+-- The rows that groups list, and how a list is sorted into groups. Nothing here has to be believed: the contracts of the flat
+-- model do not speak of groups.
 use mathlib.Core.Path.{_≡_}
-use mathlib.Core.Bool.{Bool, _&&_}
-use mathlib.Core.List.{List, []}
-use Prim.Native.Nat.{ℕ}
-use lib.Dec.{leb}
-use lib.ListN.{take}
+use mathlib.Core.Bool.{Bool, true, false, cond, _&&_}
+use mathlib.Core.List.{List, [], _∷_, _++_}
+use Prim.Native.Nat.{ℕ, _≤_}
+use lib.Dec.{eqb, leb}
+use lib.ListN.{length, take}
 use Rattle.std.specs.declared.option.Option.{Option}
 use Rattle.std.specs.declared.option.Option.the-variants.{Some, None}
 use Rattle.std.specs.Finite.{nth}
 use Rattle.std.specs.Of.Vec.{vec-items, vec-len}
 use Rattle.rows.specs.declared.row.Row.{Row}
-use Rattle.flat.specs.declared.description.OwnedRow.{OwnedRow}
+use Rattle.flat.specs.declared.description.AttachedRow.{AttachedRow}
 use Rattle.flat.specs.declared.group.Group.{Group}
 use Rattle.flat.specs.declared.group.Groups.{Groups}
 use Rattle.flat.specs.Lists.{rows-of, most-rows}
-use Rattle.flat.specs.Sound.{are-owned}
+use Rattle.flat.specs.WellFormed.{are-attached}
 
 abbrev pub listed : Group → List Row
 listed g = take (g .count) (g .rows)
@@ -27,11 +28,26 @@ listed-in (Some g) = listed g
 abbrev pub group-at : Groups → ℕ → List Row
 group-at gs q = listed-in (nth (vec-items (gs .each)) q)
 
--- the rows of the list are each of one of n owners and lawful, and no owner has more than 8
-abbrev pub is-grouped : ℕ → ℕ → ℕ → List OwnedRow → Bool
-is-grouped n m p es = are-owned n m p es && leb (most-rows n es) 8
+-- hs is gs with one row more for the owner if r, else as gs
+pub record Adds (r : Bool) (owner : ℕ) (row : Row) (gs hs : Groups) : Type 0 where
+  pub count : vec-len (hs .each) ≡ vec-len (gs .each)
+  pub each : (q : ℕ) → group-at hs q ≡ cond (r && eqb owner q) (group-at gs q ++ row ∷ []) (group-at gs q)
 
--- group q has the rows of owner q, for each of n owners
-pub record Grouped (n : ℕ) (es : List OwnedRow) (gs : Groups) : Type 0 where
-  pub count : vec-len (gs .each) ≡ n
+-- a group for each owner, and no rows
+pub record Blank (owners : ℕ) (gs : Groups) : Type 0 where
+  pub wide : owners ≤ vec-len (gs .each)
+  pub each : (q : ℕ) → length (group-at gs q) ≡ 0
+
+-- group q has the rows of owner q
+pub record Grouped (owners : ℕ) (es : List AttachedRow) (gs : Groups) : Type 0 where
+  pub wide : owners ≤ vec-len (gs .each)
   pub each : (q : ℕ) → group-at gs q ≡ rows-of q es
+
+-- each row of the list has an owner and is lawful, and no owner has more than 8
+abbrev pub is-grouped : ℕ → ℕ → ℕ → List AttachedRow → Bool
+is-grouped owners m n es = are-attached owners m n es && leb (most-rows owners es) 8
+
+-- the groups of the list, where it can be grouped
+abbrev pub Sorts : ℕ → ℕ → ℕ → List AttachedRow → Option Groups → Type 0
+Sorts owners m n es None = is-grouped owners m n es ≡ false
+Sorts owners m n es (Some gs) = (is-grouped owners m n es ≡ true) × Grouped owners es gs

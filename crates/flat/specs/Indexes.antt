@@ -13,7 +13,7 @@ use Rattle.models.specs.Shut.{shut-table}
 use Rattle.flat.specs.declared.description.Description.{Description}
 use Rattle.flat.specs.declared.index.Index.{Index}
 use Rattle.flat.specs.Lists.{is-bad}
-use Rattle.flat.specs.Sound.{is-sound, flat-table}
+use Rattle.flat.specs.WellFormed.{is-well-formed, flat-table}
 use Rattle.flat.specs.Groups.{group-at}
 
 -- two tables that answer every question alike
@@ -37,7 +37,7 @@ table-by d (Some i) = record {
   guard = group-at (i .guards);
 }
 
--- there is an index exactly where the lists are sound, and it says what they say
+-- there is an index exactly where the lists are well-formed, and it says what they say
 pub record Indexes (d : Description) (o : Option Index) : Type 0 where
-  pub sound : isSome o ≡ is-sound d
+  pub well-formed : isSome o ≡ is-well-formed d
   pub answers : Alike (table-by d o) (flat-table d)

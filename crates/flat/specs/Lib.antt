@@ -1,4 +1,4 @@
 pub mod Lists
-pub mod Sound
+pub mod WellFormed
 pub mod Groups
 pub mod Indexes

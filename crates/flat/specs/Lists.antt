@@ -10,15 +10,15 @@ use Rattle.std.specs.Finite.{nth}
 use Rattle.std.specs.Of.Vec.{vec-items}
 use Rattle.std.specs.shelf.Lists.{kept-by}
 use Rattle.rows.specs.declared.row.Row.{Row}
-use Rattle.models.specs.declared.edge.Shape.{Shape}
+use Rattle.models.specs.declared.shape.Shape.{Shape}
 use Rattle.models.specs.declared.edge.Edge.{Edge}
 use Rattle.models.specs.Tables.{Table}
 use Rattle.flat.specs.declared.description.Location.{Location}
-use Rattle.flat.specs.declared.description.OwnedRow.{OwnedRow}
+use Rattle.flat.specs.declared.description.AttachedRow.{AttachedRow}
 use Rattle.flat.specs.declared.description.Description.{Description}
 
 -- the rows that name this owner, in list order
-abbrev pub rows-of : ℕ → List OwnedRow → List Row
+abbrev pub rows-of : ℕ → List AttachedRow → List Row
 rows-of q es = map (λ e. e .row) (kept-by (λ e. eqb (e .owner) q) es)
 
 -- the largest of f 0 to f (n − 1), and 0 where there is none
@@ -27,7 +27,7 @@ largest f zero = 0
 largest f (suc n) = max (f n) (largest f n)
 
 -- the largest number of rows that one of n owners has
-abbrev pub most-rows : ℕ → List OwnedRow → ℕ
+abbrev pub most-rows : ℕ → List AttachedRow → ℕ
 most-rows n es = largest (λ q. length (rows-of q es)) n
 
 -- some edge has the action

@@ -5,6 +5,7 @@ ghost use lib.Dec.{leb, eqb};
 ghost use lib.ListN.{getD};
 ghost use Rattle.flat.specs.Lists.{uses-action};
 use crate::index::ActionSet;
+use models::ACTIONS;
 use models::Edge;
 use models::LARGEST_ACTION;
 
@@ -13,7 +14,7 @@ impl ActionSet {
         ensures value { λ r. ⌜ ((x : ℕ) → getD (r .members) x false ≡ false) ⌝ }
     {
         ActionSet {
-            members: [false; 16],
+            members: [false; ACTIONS],
         }
     }
 

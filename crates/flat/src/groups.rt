@@ -1,20 +1,20 @@
 ghost use mathlib.Core.Path.{_≡_};
-ghost use mathlib.Core.Bool.{true, false, cond, _&&_};
+ghost use mathlib.Core.Bool.{cond, _&&_};
 ghost use mathlib.Core.List.{[], _∷_, _++_};
 ghost use Prim.Native.Nat.{ℕ};
 ghost use lib.Dec.{eqb, ltb};
 ghost use lib.ListN.{length};
 ghost use Rattle.std.specs.Finite.{nth};
 ghost use Rattle.std.specs.Of.Vec.{vec-items, vec-len};
-ghost use Rattle.std.specs.Options.{mapped, Cases as BySome};
+ghost use Rattle.std.specs.Options.{mapped};
 ghost use Rattle.std.specs.Vec.{made};
 ghost use Rattle.flat.specs.Lists.{largest};
-ghost use Rattle.flat.specs.Sound.{is-owned};
-ghost use Rattle.flat.specs.Groups.{listed, group-at, is-grouped, Grouped};
-use crate::description::OwnedRow;
+ghost use Rattle.flat.specs.WellFormed.{is-attached};
+ghost use Rattle.flat.specs.Groups.{listed, group-at, Blank, Sorts, Adds};
+use crate::description::AttachedRow;
 use crate::group::Group;
 use crate::group::Groups;
-use models::ROWS;
+use models::MAX_ROWS;
 use rows::Row;
 use std::alloc::AllocError;
 use std::alloc::Global;
@@ -31,7 +31,7 @@ impl Group {
         ensures value { λ r. ⌜ listed r ≡ [] ⌝ }
     {
         Group {
-            rows: [BLANK; ROWS],
+            rows: [BLANK; MAX_ROWS],
             count: 0,
         }
     }
@@ -42,7 +42,7 @@ impl Group {
         ensures after { λ r. ⌜ listed (now (self .exit)) ≡ cond r (listed (now (self .entry)) ++ row ∷ []) (listed (now (self .entry))) ⌝ }
     {
         let n = self.count as usize;
-        if n >= ROWS {
+        if n >= MAX_ROWS {
             return false;
         }
         self.rows[n] = row;
@@ -68,19 +68,18 @@ impl Group {
 }
 
 impl Groups {
-    // So many groups without rows.
-    pub(crate) fn empty(heap: Global, owners: usize) -> Result<Groups, AllocError>
-        ensures made { λ r. ⌜ made r (λ gs. Grouped owners [] gs) ⌝ }
+    // As many groups, without rows.
+    pub(crate) fn empty(heap: Global, count: usize) -> Result<Groups, AllocError>
+        ensures made { λ r. ⌜ made r (λ gs. (vec-len (gs .each) ≡ count) × ((q : ℕ) → group-at gs q ≡ [])) ⌝ }
     {
-        let each = vec![in heap; Group::empty(); owners]?;
+        let each = vec![in heap; Group::empty(); count]?;
         Ok(Groups { each })
     }
 
-    // One row more for the owner; false where there is no such owner or its group has no room.
+    // One row more for the owner; false where it has no group or its group has no room.
     fn add(&mut self, owner: u16, row: Row) -> bool
         ensures value { λ r. ⌜ r ≡ (ltb owner (vec-len (now (self .entry) .each)) && ltb (length (group-at (now (self .entry)) owner)) 8) ⌝ }
-        ensures after { λ r. ⌜ ((q : ℕ) → group-at (now (self .exit)) q ≡ cond (r && eqb owner q) (group-at (now (self .entry)) q ++ row ∷ []) (group-at (now (self .entry)) q)) ⌝ }
-        ensures len { λ _. ⌜ vec-len (now (self .exit) .each) ≡ vec-len (now (self .entry) .each) ⌝ }
+        ensures after { λ r. ⌜ Adds r owner row (now (self .entry)) (now (self .exit)) ⌝ }
     {
         match self.each.get_mut(owner as usize) {
             Some(group) => group.push(row),
@@ -88,33 +87,33 @@ impl Groups {
         }
     }
 
-    // The same for a row that is lawful.
-    fn place(&mut self, clocks: u8, parameters: u8, entry: &OwnedRow) -> bool
-        ensures value { λ r. ⌜ r ≡ (is-owned (vec-len (now (self .entry) .each)) clocks parameters (now (entry .entry)) && ltb (length (group-at (now (self .entry)) (now (entry .entry) .owner))) 8) ⌝ }
-        ensures after { λ r. ⌜ ((q : ℕ) → group-at (now (self .exit)) q ≡ cond (r && eqb (now (entry .entry) .owner) q) (group-at (now (self .entry)) q ++ now (entry .entry) .row ∷ []) (group-at (now (self .entry)) q)) ⌝ }
-        ensures len { λ _. ⌜ vec-len (now (self .exit) .each) ≡ vec-len (now (self .entry) .each) ⌝ }
+    // The same for one of `owners` owners and a lawful row; false for any other, and nothing changes.
+    fn place(&mut self, owners: usize, clocks: u8, parameters: u8, entry: &AttachedRow) -> bool
+        ensures value { λ r. ⌜ r ≡ (is-attached owners clocks parameters (now (entry .entry)) && (ltb (now (entry .entry) .owner) (vec-len (now (self .entry) .each)) && ltb (length (group-at (now (self .entry)) (now (entry .entry) .owner))) 8)) ⌝ }
+        ensures after { λ r. ⌜ Adds r (now (entry .entry) .owner) (now (entry .entry) .row) (now (self .entry)) (now (self .exit)) ⌝ }
     {
-        entry.row.is_lawful(clocks, parameters) && self.add(entry.owner, entry.row)
+        (entry.owner as usize) < owners
+            && entry.row.is_lawful(clocks, parameters)
+            && self.add(entry.owner, entry.row)
     }
 
-    // The rows of the list by their owners, of whom there are so many; none where a row is of nobody or not lawful, or
-    // an owner has too many.
-    pub(crate) fn new(
-        heap: Global,
+    // The rows of the list in the groups of their owners, of whom there are `owners`; none where a row has another owner or
+    // is not lawful, or an owner has too many. The groups are to have no rows before.
+    pub(crate) fn filled(
+        mut self,
         owners: usize,
         clocks: u8,
         parameters: u8,
-        entries: &[OwnedRow],
-    ) -> Result<Option<Groups>, AllocError>
-        ensures made { λ r. ⌜ made r (λ o. BySome o (is-grouped owners clocks parameters (now (entries .entry)) ≡ false) (λ gs. (is-grouped owners clocks parameters (now (entries .entry)) ≡ true) × Grouped owners (now (entries .entry)) gs)) ⌝ }
+        entries: &[AttachedRow],
+    ) -> Option<Groups>
+        ensures sorts { λ r. ⌜ (Blank owners self → Sorts owners clocks parameters (now (entries .entry)) r) ⌝ }
     {
-        let mut groups = Groups::empty(heap, owners)?;
         for entry in entries {
-            if !groups.place(clocks, parameters, entry) {
-                return Ok(None);
+            if !self.place(owners, clocks, parameters, entry) {
+                return None;
             }
         }
-        Ok(Some(groups))
+        Some(self)
     }
 
     // The largest number of rows in a group.
@@ -128,7 +127,7 @@ impl Groups {
         most
     }
 
-    fn of(&self, owner: u16) -> Option<&Group>
+    fn get(&self, owner: u16) -> Option<&Group>
         ensures value { λ r. ⌜ mapped (λ g. g .now) r ≡ nth (vec-items (now (self .entry) .each)) owner ⌝ }
     {
         self.each.get(owner as usize)
@@ -137,7 +136,7 @@ impl Groups {
     pub(crate) fn count(&self, owner: u16) -> u8
         ensures value { λ r. ⌜ r ≡ length (group-at (now (self .entry)) owner) ⌝ }
     {
-        match self.of(owner) {
+        match self.get(owner) {
             Some(group) => group.count(),
             None => 0,
         }
@@ -146,7 +145,7 @@ impl Groups {
     pub(crate) fn row(&self, owner: u16, k: u8) -> Option<Row>
         ensures value { λ r. ⌜ r ≡ nth (group-at (now (self .entry)) owner) k ⌝ }
     {
-        match self.of(owner) {
+        match self.get(owner) {
             Some(group) => group.row(k),
             None => None,
         }

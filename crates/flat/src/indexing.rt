@@ -1,19 +1,16 @@
 ghost use mathlib.Core.Path.{_≡_};
 ghost use mathlib.Core.Bool.{_&&_};
-ghost use Rattle.std.specs.Vec.{made};
 ghost use Rattle.models.specs.Tables.{is-within-limits};
-ghost use Rattle.flat.specs.Sound.{are-admitted};
+ghost use Rattle.flat.specs.WellFormed.{are-admitted};
 ghost use Rattle.flat.specs.Indexes.{Indexes};
 use crate::description::Description;
-use crate::group::Groups;
 use crate::index::ActionSet;
 use crate::index::Index;
+use crate::room::Room;
 use models::Edge;
-use models::LOCATIONS;
-use models::SLOTS;
+use models::MAX_LOCATIONS;
+use models::MAX_SLOTS;
 use models::Shape;
-use std::alloc::AllocError;
-use std::alloc::Global;
 
 fn are_admitted(shape: &Shape, edges: &[Edge]) -> bool
     ensures value { λ r. ⌜ r ≡ are-admitted (now (shape .entry)) (now (edges .entry)) ⌝ }
@@ -34,32 +31,29 @@ fn fits(shape: &Shape, edges: &[Edge]) -> bool
 }
 
 impl Index {
-    // The index of the lists, or none where they are not sound.
-    pub(crate) fn new(heap: Global, lists: &Description) -> Result<Option<Index>, AllocError>
-        ensures made { λ r. ⌜ made r (λ o. Indexes (now (lists .entry)) o) ⌝ }
+    // The index of the lists, or none where they are not well-formed: what the invariant of a flat model asks.
+    pub(crate) fn new(room: Room, lists: &Description) -> Option<Index>
+        ensures indexed { λ r. ⌜ ∥ Indexes (now (lists .entry)) r ∥₁ ⌝ }
+    {
+        Index::find(room, lists)
+    }
+
+    fn find(room: Room, lists: &Description) -> Option<Index>
+        ensures indexes { λ r. ⌜ Indexes (now (lists .entry)) r ⌝ }
     {
         let locations = lists.locations.len();
         let slots = lists.edges.len();
-        if locations > LOCATIONS as usize || slots > SLOTS as usize {
-            return Ok(None);
+        if locations > MAX_LOCATIONS as usize || slots > MAX_SLOTS as usize {
+            return None;
         }
-        let Some(invariants) = Groups::new(
-            heap,
-            locations,
-            lists.clocks,
-            lists.parameters,
-            &lists.invariants,
-        )?
-        else {
-            return Ok(None);
-        };
-        let Some(guards) = Groups::new(heap, slots, lists.clocks, lists.parameters, &lists.guards)?
-        else {
-            return Ok(None);
-        };
+        let Room { invariants, guards } = room;
+        let m = lists.clocks;
+        let n = lists.parameters;
+        let invariants = invariants.filled(locations, m, n, &lists.invariants)?;
+        let guards = guards.filled(slots, m, n, &lists.guards)?;
         let shape = Shape {
-            clocks: lists.clocks,
-            parameters: lists.parameters,
+            clocks: m,
+            parameters: n,
             locations: locations as u8,
             first: lists.first,
             slots: slots as u16,
@@ -67,13 +61,14 @@ impl Index {
             guards: guards.most(),
         };
         if !fits(&shape, &lists.edges) {
-            return Ok(None);
+            return None;
         }
-        Ok(Some(Index {
+        let actions = ActionSet::of(&lists.edges);
+        Some(Index {
             shape,
             invariants,
             guards,
-            actions: ActionSet::of(&lists.edges),
-        }))
+            actions,
+        })
     }
 }

@@ -8,9 +8,11 @@ mod index;
 mod indexing;
 mod lookup;
 mod model;
+mod room;
 
+pub use description::AttachedRow;
 pub use description::Description;
 pub use description::Location;
-pub use description::OwnedRow;
 pub use flat::Flat;
 pub use model::FlatModel;
+pub use room::Room;

@@ -1,36 +1,48 @@
 ghost use mathlib.Core.Path.{_≡_};
 ghost use Rattle.std.specs.Orderings.{Decides};
 ghost use Rattle.std.specs.Options.{isSome, mapped};
-ghost use Rattle.std.specs.Vec.{made, refused};
+ghost use Rattle.std.specs.Vec.{made};
 ghost use Rattle.models.specs.Shut.{shut-table};
 ghost use Rattle.flat.specs.Lists.{table-of};
-ghost use Rattle.flat.specs.Sound.{Sound, flat-table};
+ghost use Rattle.flat.specs.WellFormed.{Well-formed, flat-table};
+ghost use Rattle.flat.specs.Groups.{Blank};
 ghost use Rattle.flat.specs.Indexes.{Alike, table-by};
 use crate::description::Description;
 use crate::flat::Flat;
+use crate::group::Groups;
 use crate::index::Index;
+use crate::room::Room;
 use models::Edge;
+use models::MAX_LOCATIONS;
+use models::MAX_SLOTS;
 use models::Model;
 use models::Shape;
 use models::Shut;
 use models::ShutModel;
 use rows::Row;
+use std::alloc::AllocError;
 use std::alloc::Global;
-use std::alloc::Refused;
+
+impl Room {
+    /// Takes the memory. Nothing else in the making of a flat model can fail.
+    pub fn new(heap: Global) -> Result<Room, AllocError>
+        ensures made { λ r. ⌜ made r (λ room. Blank 64 (room .invariants) × Blank 512 (room .guards)) ⌝ }
+    {
+        let invariants = Groups::empty(heap, MAX_LOCATIONS as usize)?;
+        let guards = Groups::empty(heap, MAX_SLOTS as usize)?;
+        Ok(Room { invariants, guards })
+    }
+}
 
 impl Flat {
-    /// The flat model on the lists: its table is what they say if they are sound, else that of the shut model. If there
-    /// is no memory for it, the lists are handed back.
-    pub fn new(heap: Global, lists: Description) -> Result<Flat, Refused<Description>>
-        ensures value { λ r. ⌜ made r (λ f. f .lists ≡ lists) ⌝ }
-        ensures sound { λ r. ⌜ (Sound lists → made r (λ f. flat-table (f .lists) ≡ table-of lists)) ⌝ }
-        ensures shut { λ r. ⌜ ((Sound lists → ⊥) → made r (λ f. flat-table (f .lists) ≡ shut-table)) ⌝ }
-        ensures refused { λ r. ⌜ refused r (λ e. e .value ≡ lists) ⌝ }
+    /// The flat model on the lists: its table is what they describe if they are well-formed, else that of the shut model.
+    pub fn new(room: Room, lists: Description) -> Flat
+        ensures value { λ r. ⌜ r .lists ≡ lists ⌝ }
+        ensures described { λ r. ⌜ (Well-formed lists → flat-table (r .lists) ≡ table-of lists) ⌝ }
+        ensures shut { λ r. ⌜ ((Well-formed lists → ⊥) → flat-table (r .lists) ≡ shut-table) ⌝ }
     {
-        match Index::new(heap, &lists) {
-            Ok(index) => Ok(Flat { lists, index }),
-            Err(_) => Err(Refused { value: lists }),
-        }
+        let index = Index::new(room, &lists);
+        Flat { lists, index }
     }
 
     /// The lists that the model stands on, as they were given.
@@ -41,15 +53,15 @@ impl Flat {
     }
 
     fn index(&self) -> Option<&Index>
-        ensures decides { λ r. ⌜ Decides (isSome r) (Sound (now (self .entry) .lists)) ⌝ }
+        ensures decides { λ r. ⌜ Decides (isSome r) (Well-formed (now (self .entry) .lists)) ⌝ }
         ensures answers { λ r. ⌜ Alike (table-by (now (self .entry) .lists) (mapped (λ i. i .now) r)) (flat-table (now (self .entry) .lists)) ⌝ }
     {
         self.index.as_ref()
     }
 
     /// Whether the lists make a model; if not, this is the shut model.
-    pub fn is_sound(&self) -> bool
-        ensures decides { λ r. ⌜ Decides r (Sound (now (self .entry) .lists)) ⌝ }
+    pub fn is_well_formed(&self) -> bool
+        ensures decides { λ r. ⌜ Decides r (Well-formed (now (self .entry) .lists)) ⌝ }
     {
         self.index().is_some()
     }

@@ -10,7 +10,7 @@ use Rattle.std.proofs.shelf.Tests.{lt-ltb, le-leb, and-from}
 use Rattle.std.proofs.shelf.Ways.{tells}
 use Rattle.rows.specs.Moves.{is-within-clocks}
 use Rattle.rows.proofs.Clocks.{within-clocks-decides}
-use Rattle.models.specs.declared.edge.Shape.{Shape}
+use Rattle.models.specs.declared.shape.Shape.{Shape}
 use Rattle.models.specs.declared.edge.Edge.{Edge}
 use Rattle.models.specs.Tables.{Shape-limits, Edge-limits, Limits, is-within-limits, is-admitted}
 use Rattle.models.specs.Shut.{shut-table}

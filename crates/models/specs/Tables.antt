@@ -11,7 +11,7 @@ use Rattle.std.specs.shelf.Lists.{All}
 use Rattle.rows.specs.declared.row.Row.{Row}
 use Rattle.rows.specs.Lawful.{Lawful}
 use Rattle.rows.specs.Moves.{Within-clocks, is-within-clocks}
-use Rattle.models.specs.declared.edge.Shape.{Shape}
+use Rattle.models.specs.declared.shape.Shape.{Shape}
 use Rattle.models.specs.declared.edge.Edge.{Edge}
 
 -- locations, slots and actions are numbers
@@ -22,11 +22,11 @@ pub record Table : Type 0 where
   pub uses : ℕ → Bool
   -- the locations that are not to be reached
   pub bad : ℕ → Bool
-  -- the rows that hold while a location is occupied
+  -- the rows that must hold while a location is occupied
   pub invariant : ℕ → List Row
   -- the edge in a slot, if the slot is filled
   pub edge : ℕ → Option Edge
-  -- the rows that hold when the edge in a slot is taken
+  -- the rows that must hold when the edge in a slot is taken
   pub guard : ℕ → List Row
 
 pub record Shape-limits (h : Shape) : Type 0 where
@@ -39,7 +39,7 @@ pub record Shape-limits (h : Shape) : Type 0 where
   pub invariants : h .invariants ≤ 8
   pub guards : h .guards ≤ 8
 
--- the edge joins two locations, and resets clocks that there are
+-- the edge joins two locations, its action is within the limit, and it resets none but clocks that there are
 pub record Edge-limits (h : Shape) (e : Edge) : Type 0 where
   pub source : e .source < h .locations
   pub target : e .target < h .locations
@@ -57,6 +57,7 @@ pub record Limits (M : Table) : Type 0 where
   pub edges : (k : ℕ) (e : Edge) → M .edge k ≡ Some e → Edge-limits (M .shape) e
   pub guards : (k : ℕ) → Rows-limits (M .shape) (M .shape .guards) (M .guard k)
   -- outside the table there is nothing
+  pub no-use : (x : ℕ) → 15 < x → M .uses x ≡ false
   pub no-bad : (q : ℕ) → M .shape .locations ≤ q → M .bad q ≡ false
   pub no-invariant : (q : ℕ) → M .shape .locations ≤ q → M .invariant q ≡ []
   pub no-edge : (k : ℕ) → M .shape .slots ≤ k → M .edge k ≡ None

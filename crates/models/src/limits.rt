@@ -2,13 +2,13 @@ ghost use mathlib.Core.Path.{_≡_};
 ghost use Rattle.std.specs.Orderings.{Decides};
 ghost use Rattle.models.specs.Tables.{Shape-limits, Edge-limits, is-within-limits, is-admitted};
 use crate::edge::Edge;
-use crate::edge::LARGEST_ACTION;
-use crate::edge::LOCATIONS;
-use crate::edge::PARAMETERS;
-use crate::edge::ROWS;
-use crate::edge::SLOTS;
-use crate::edge::Shape;
-use rows::CLOCKS;
+use crate::shape::LARGEST_ACTION;
+use crate::shape::MAX_LOCATIONS;
+use crate::shape::MAX_PARAMETERS;
+use crate::shape::MAX_ROWS;
+use crate::shape::MAX_SLOTS;
+use crate::shape::Shape;
+use rows::MAX_CLOCKS;
 
 impl Shape {
     /// Whether a model may have these numbers.
@@ -16,14 +16,14 @@ impl Shape {
         ensures decides { λ r. ⌜ Decides r (Shape-limits (now (self .entry))) ⌝ }
         ensures value { λ r. ⌜ r ≡ is-within-limits (now (self .entry)) ⌝ }
     {
-        self.clocks as usize <= CLOCKS
-            && self.parameters <= PARAMETERS
+        self.clocks as usize <= MAX_CLOCKS
+            && self.parameters <= MAX_PARAMETERS
             && 1 <= self.locations
-            && self.locations <= LOCATIONS
+            && self.locations <= MAX_LOCATIONS
             && self.first < self.locations
-            && self.slots <= SLOTS
-            && self.invariants as usize <= ROWS
-            && self.guards as usize <= ROWS
+            && self.slots <= MAX_SLOTS
+            && self.invariants as usize <= MAX_ROWS
+            && self.guards as usize <= MAX_ROWS
     }
 
     /// Whether a model with these numbers may have the edge: it joins two locations, its action is within the limit, and

@@ -4,7 +4,7 @@ ghost use denote.Ref.{now};
 ghost use Rattle.std.specs.Finite.{nth};
 ghost use Rattle.models.specs.Tables.{Table, Limits};
 use crate::edge::Edge;
-use crate::edge::Shape;
+use crate::shape::Shape;
 use rows::Row;
 
 /// What every model answers, from its table. Locations, slots and rows count from 0. Where one is asked for that is not in

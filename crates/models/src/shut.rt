@@ -1,8 +1,8 @@
 ghost use mathlib.Core.Path.{_≡_};
 ghost use Rattle.models.specs.Shut.{shut-table};
 use crate::edge::Edge;
-use crate::edge::Shape;
 use crate::model::Model;
+use crate::shape::Shape;
 use rows::Row;
 
 /// The shut model: one location, which is bad, and nothing else. It is never safe, so it stands for what is no model.

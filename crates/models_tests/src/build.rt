@@ -1,8 +1,9 @@
+use flat::AttachedRow;
 use flat::Description;
 use flat::Flat;
 use flat::FlatModel;
 use flat::Location;
-use flat::OwnedRow;
+use flat::Room;
 use models::Edge;
 use models::Model;
 use rows::ClockSet;
@@ -34,8 +35,8 @@ pub(crate) fn bound(t: [i32; 7]) -> Row {
     }
 }
 
-pub(crate) fn owned(owner: u16, row: Row) -> OwnedRow {
-    OwnedRow { owner, row }
+pub(crate) fn owned(owner: u16, row: Row) -> AttachedRow {
+    AttachedRow { owner, row }
 }
 
 // Whether there is a row and it is this one.
@@ -90,8 +91,12 @@ pub(crate) fn is_shut<M: Model>(model: &M) -> bool {
         && model.guard_count(0) == 0
 }
 
+pub(crate) fn flat(heap: Global, lists: Description) -> Result<Flat, AllocError> {
+    Ok(Flat::new(Room::new(heap)?, lists))
+}
+
 // Whether the lists make a model, or else the shut model.
-pub(crate) fn gives(heap: Global, lists: Description, sound: bool) -> Result<bool, AllocError> {
-    let model = Flat::new(heap, lists)?;
-    Ok(model.is_sound() == sound && is_shut(&model) != sound)
+pub(crate) fn gives(heap: Global, lists: Description, model: bool) -> Result<bool, AllocError> {
+    let made = flat(heap, lists)?;
+    Ok(made.is_well_formed() == model && is_shut(&made) != model)
 }

@@ -13,11 +13,11 @@ const CLOCK_3: ClockSet = ClockSet {
 };
 
 // Whether the edge, with another after it, makes a model of 64 locations and so many clocks, or the shut model.
-fn is_right(heap: Global, clocks: u8, tried: Edge, sound: bool) -> Result<bool, AllocError> {
+fn is_right(heap: Global, clocks: u8, tried: Edge, model: bool) -> Result<bool, AllocError> {
     let mut given = lists(heap, 64, 0)?;
     given.clocks = clocks;
     given.edges = vec![in heap; tried, edge(0, 0, 1, NO_CLOCKS)]?;
-    gives(heap, given, sound)
+    gives(heap, given, model)
 }
 
 // Each limit of an edge, at it and past it.
@@ -62,5 +62,5 @@ fn used_actions(rt: LibcRuntime) -> Result<(), Fail> {
         edge(0, 0, 15, NO_CLOCKS),
         edge(0, 0, 3, NO_CLOCKS),
     ]?;
-    check(uses_three_and_fifteen(&Flat::new(heap, given)?))
+    check(uses_three_and_fifteen(&flat(heap, given)?))
 }

@@ -43,7 +43,7 @@ fn lease(heap: Global) -> Result<Flat, AllocError> {
         edges: vec![in heap; edge(0, 0, 1, CLOCK_1), edge(0, 1, 0, NO_CLOCKS)]?,
         guards: vec![in heap; owned(1, SILENT)]?,
     };
-    Ok(Flat::new(heap, lists)?)
+    flat(heap, lists)
 }
 
 fn is_edge(found: Option<Edge>, source: u8, target: u8, action: u8, resets: ClockSet) -> bool {
@@ -123,7 +123,7 @@ fn has_its_lists(model: &Flat) -> bool {
 #[test]
 fn every_question(rt: LibcRuntime) -> Result<(), Fail> {
     let model = lease(rt.alloc())?;
-    check(model.is_sound() && has_its_numbers(&model)).note("numbers")?;
+    check(model.is_well_formed() && has_its_numbers(&model)).note("numbers")?;
     check(has_its_marks(&model)).note("bad locations and used actions")?;
     check(has_its_invariants(&model)).note("invariants")?;
     check(has_its_edges(&model)).note("edges")?;

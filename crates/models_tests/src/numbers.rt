@@ -11,7 +11,7 @@ struct Case {
     first: u8,
     locations: usize,
     edges: usize,
-    sound: bool,
+    model: bool,
 }
 
 fn sized(
@@ -20,7 +20,7 @@ fn sized(
     first: u8,
     locations: usize,
     edges: usize,
-    sound: bool,
+    model: bool,
 ) -> Case {
     Case {
         clocks,
@@ -28,7 +28,7 @@ fn sized(
         first,
         locations,
         edges,
-        sound,
+        model,
     }
 }
 
@@ -60,7 +60,7 @@ fn is_right(heap: Global, c: &Case) -> Result<bool, AllocError> {
     given.clocks = c.clocks;
     given.parameters = c.parameters;
     given.first = c.first;
-    gives(heap, given, c.sound)
+    gives(heap, given, c.model)
 }
 
 #[test]

@@ -1,8 +1,8 @@
 use crate::build::*;
+use flat::AttachedRow;
 use flat::Description;
 use flat::Flat;
 use flat::FlatModel;
-use flat::OwnedRow;
 use models::Model;
 use std::alloc::AllocError;
 use std::alloc::Global;
@@ -17,7 +17,7 @@ fn three(heap: Global) -> Result<Description, AllocError> {
 }
 
 // Each limit of a row, at it and past it.
-fn cases() -> [(OwnedRow, bool); 11] {
+fn cases() -> [(AttachedRow, bool); 11] {
     let p2 = [0, 0, 1, 0, 0, 0, 0];
     let p3 = [0, 0, 0, 1, 0, 0, 0];
     [
@@ -36,16 +36,16 @@ fn cases() -> [(OwnedRow, bool); 11] {
 }
 
 // Whether the row, after another, makes a model or the shut model as an invariant.
-fn is_right_invariant(heap: Global, tried: OwnedRow, sound: bool) -> Result<bool, AllocError> {
+fn is_right_invariant(heap: Global, tried: AttachedRow, model: bool) -> Result<bool, AllocError> {
     let mut given = three(heap)?;
     given.invariants = vec![in heap; owned(0, row(1, 0, 1)), tried]?;
-    gives(heap, given, sound)
+    gives(heap, given, model)
 }
 
-fn is_right_guard(heap: Global, tried: OwnedRow, sound: bool) -> Result<bool, AllocError> {
+fn is_right_guard(heap: Global, tried: AttachedRow, model: bool) -> Result<bool, AllocError> {
     let mut given = three(heap)?;
     given.guards = vec![in heap; owned(0, row(1, 0, 1)), tried]?;
-    gives(heap, given, sound)
+    gives(heap, given, model)
 }
 
 #[test]
@@ -78,7 +78,7 @@ fn has_eight_of_one(model: &Flat) -> bool {
 #[test]
 fn eight_rows(rt: LibcRuntime) -> Result<(), Fail> {
     let heap = rt.alloc();
-    check(has_eight_of_one(&Flat::new(heap, crowded(heap, 8)?)?))?;
+    check(has_eight_of_one(&flat(heap, crowded(heap, 8)?)?))?;
     check(gives(heap, crowded(heap, 9)?, false)?)
 }
 
@@ -116,6 +116,6 @@ fn keeps_order_of_guards(model: &Flat) -> bool {
 
 #[test]
 fn list_order_is_kept(rt: LibcRuntime) -> Result<(), Fail> {
-    let model = Flat::new(rt.alloc(), mixed(rt.alloc())?)?;
+    let model = flat(rt.alloc(), mixed(rt.alloc())?)?;
     check(keeps_order_of_invariants(&model) && keeps_order_of_guards(&model))
 }

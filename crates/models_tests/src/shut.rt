@@ -26,6 +26,6 @@ fn every_location_is_looked_at(rt: LibcRuntime) -> Result<(), Fail> {
     if let Some(last) = marked.locations.get_mut(63) {
         last.bad = true;
     }
-    check(!has_bad_location(&Flat::new(heap, lists(heap, 64, 0)?)?))?;
-    check(has_bad_location(&Flat::new(heap, marked)?))
+    check(!has_bad_location(&flat(heap, lists(heap, 64, 0)?)?))?;
+    check(has_bad_location(&flat(heap, marked)?))
 }

@@ -5,12 +5,12 @@ ghost use Rattle.std.specs.Orderings.{Decides};
 ghost use Rattle.rows.specs.Moves.{Clocks, marks, has, Within-clocks, is-within-clocks, after-reset, mark-before-reset};
 
 /// The most clocks that a model may have.
-pub const CLOCKS: usize = 6;
+pub const MAX_CLOCKS: usize = 6;
 
 /// A set of clocks: place c − 1 tells whether clock c is in it.
 #[derive(Clone, Copy)]
 pub struct ClockSet {
-    pub members: [bool; CLOCKS],
+    pub members: [bool; MAX_CLOCKS],
 }
 
 // Whether place c, where clock c + 1 stands, is empty or is that of one of the first so many clocks.
@@ -26,7 +26,7 @@ impl ClockSet {
         ensures value { λ r. ⌜ r ≡ has (now (self .entry)) clock ⌝ }
     {
         let c = clock as usize;
-        if c == 0 || c > CLOCKS {
+        if c == 0 || c > MAX_CLOCKS {
             return false;
         }
         self.members[c - 1]

@@ -5,8 +5,8 @@ mod replace;
 mod row;
 mod valuation;
 
-pub use clock_set::CLOCKS;
 pub use clock_set::ClockSet;
+pub use clock_set::MAX_CLOCKS;
 pub use replace::WAITED;
 pub use row::LARGEST_COEFFICIENT;
 pub use row::Row;

@@ -1,7 +1,7 @@
 use native.Mathlib.Omega.{arith}
 use Rattle.std.proofs.shelf.Lists.{at-drop-more, at-drop-all}
 use Rattle.rows.proofs.Asked.{asked-no, asked-more, asked-all}
-use Rattle.flat.specs.Sound.{are-admitted}
+use Rattle.flat.specs.WellFormed.{are-admitted}
 use Rattle.flat.proofs.indexing.are_admitted.Needs as need
 
 pub returns-then-not-admits : need.returns-then-not-admits

@@ -1,6 +1,6 @@
 use mathlib.Core.Path.{_≡_}
 use lib.ListN.{drop}
-use Rattle.flat.specs.Sound.{are-admitted}
+use Rattle.flat.specs.WellFormed.{are-admitted}
 use Rattle.flat.proofs.indexing.are_admitted.Given as given
 
 -- what is left decides as the whole does

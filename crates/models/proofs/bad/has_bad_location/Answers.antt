@@ -2,7 +2,7 @@ use mathlib.Core.Path.{_≡_, ap}
 use mathlib.Core.Bool.{false}
 use Prim.Native.Nat.{ℕ, _≤_}
 use native.Mathlib.Omega.{arith}
-use Rattle.models.specs.declared.edge.Shape.{Shape}
+use Rattle.models.specs.declared.shape.Shape.{Shape}
 use Rattle.models.proofs.Runs.{none-bad, decides-none, avoids-none}
 use Rattle.models.proofs.bad.has_bad_location.Needs as need
 

@@ -2,10 +2,10 @@ use mathlib.Core.Path.{subst, sym, _∙_}
 use Rattle.std.specs.declared.option.Option.{Option}
 use Rattle.std.proofs.shelf.Ways.{decides-at}
 use Rattle.flat.specs.declared.index.Index.{Index}
-use Rattle.flat.specs.Sound.{flat-table}
+use Rattle.flat.specs.WellFormed.{flat-table}
 use Rattle.flat.specs.Indexes.{Alike, table-by}
-use Rattle.flat.proofs.Sound.{sound-decides}
-use Rattle.flat.proofs.Indexed.{sound-is, answers-are}
+use Rattle.flat.proofs.WellFormed.{well-formed-decides}
+use Rattle.flat.proofs.Indexed.{well-formed-is, answers-are}
 use Rattle.flat.proofs.flat.Flat.index.Needs as need
 
 pub returns : need.returns
@@ -13,6 +13,6 @@ returns c =
     let f = c .args .self .now in
     let d = f .lists in
     record {
-      decides = decides-at _ _ (c .as-ref .ensures .test ∙ sound-is d (f .index) (f .indexed)) (sound-decides d);
+      decides = decides-at _ _ (c .as-ref .ensures .test ∙ well-formed-is d (f .index) (f .indexed)) (well-formed-decides d);
       answers = subst (λ (o : Option Index). Alike (table-by d o) (flat-table d)) (sym (c .as-ref .ensures .value)) (answers-are d (f .index) (f .indexed));
     }

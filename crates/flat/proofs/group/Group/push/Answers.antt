@@ -4,8 +4,8 @@ use Rattle.std.proofs.shelf.Lists.{length-take-le, take-more-set}
 use Rattle.std.proofs.shelf.Tests.{lt-ltb, le-ltb}
 use Rattle.flat.proofs.group.Group.push.Needs as need
 
-pub returns-then-n-ge-ROWS : need.returns-then-n-ge-ROWS
-returns-then-n-ge-ROWS c =
+pub returns-then-n-ge-MAX-ROWS : need.returns-then-n-ge-MAX-ROWS
+returns-then-n-ge-MAX-ROWS c =
     let g = c .args .self .now in
     let l = g .long in
     let e = length-take-le (g .count) (g .rows) (omega (arith, g .few)) in

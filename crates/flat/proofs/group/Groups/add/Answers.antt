@@ -24,6 +24,5 @@ returns-in-Some c =
     let e = listed-read (vec-items v) (vec-len v) i (c .in-Some .group .now) (v .ok .0) l (f .1) in
     record {
       value = asked (ltb i (vec-len v)) _ _ (c .push .result) (sym (f .0)) e (c .push .ensures .value);
-      after = listed-added (vec-items v) i (c .in-Some .group .now) (c .push .last .self) (c .args .row) (c .push .result) (omega (arith, v .ok .0)) e (c .push .ensures .after);
-      len = refl;
+      after = record { count = refl; each = listed-added (vec-items v) i (c .in-Some .group .now) (c .push .last .self) (c .args .row) (c .push .result) (omega (arith, v .ok .0)) e (c .push .ensures .after) };
     }

@@ -1,4 +1,4 @@
-use Rattle.flat.proofs.Sound.{flat-limits}
+use Rattle.flat.proofs.WellFormed.{flat-limits}
 use Rattle.flat.proofs.model.FlatModel.the-impl.Needs as need
 
 pub limits-law : need.limits-law

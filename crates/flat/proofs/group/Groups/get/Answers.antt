@@ -4,7 +4,7 @@ use lib.ListN.{length}
 use Rattle.std.specs.Finite.{nth}
 use Rattle.flat.specs.declared.group.Group.{Group}
 use Rattle.flat.proofs.Fronts.{nth-found}
-use Rattle.flat.proofs.group.Groups.of.Needs as need
+use Rattle.flat.proofs.group.Groups.get.Needs as need
 
 pub returns : need.returns
 returns c =
