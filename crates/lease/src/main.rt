@@ -1,9 +1,14 @@
-//! The lease of a drawing: which times meet the term that keeps two people from writing at once.
+//! The lease of a drawing: its model, and which times meet the term that keeps two people from writing at once.
+mod lists;
+mod sentences;
+
+use flat::FlatModel;
 use report::Formula;
 use report::FormulaDisplay;
 use rows::Row;
 use rows::Valuation;
-use std::io;
+use sentences::report_model;
+use std::error::AnyError;
 
 // An editor renews within p1, and a silent editor keeps the drawing for p2: p2 has to be the longer.
 const TERM: Row = Row {
@@ -29,7 +34,7 @@ fn standing(valuation: &Valuation) -> &'static str {
     }
 }
 
-fn report_setting(rt: &LibcRuntime, renew: u32, keep: u32) -> io::Result<()> {
+fn report_setting(rt: &LibcRuntime, renew: u32, keep: u32) -> Result<(), AnyError> {
     let values = [renew, keep];
     let valuation = Valuation {
         scale: SCALE,
@@ -39,15 +44,18 @@ fn report_setting(rt: &LibcRuntime, renew: u32, keep: u32) -> io::Result<()> {
     println!(
         rt,
         "At scale {SCALE}, the setting p1 = {renew}, p2 = {keep} {end}."
-    )
+    )?;
+    Ok(())
 }
 
-fn main(rt: LibcRuntime) -> io::Result<()> {
+fn main(rt: LibcRuntime) -> Result<(), AnyError> {
     let term = Formula { row: TERM };
     println!(
         rt,
         "An editor of a drawing must renew within p1; a silent editor keeps it for p2."
     )?;
+    let model = lists::lease(rt.alloc())?;
+    report_model(&rt, &model)?;
     println!(
         rt,
         "The term is {term}: a drawing is kept longer than an editor may take to renew."
