@@ -2,3 +2,4 @@ pub mod Lists
 pub mod WellFormed
 pub mod Groups
 pub mod Indexes
+pub mod Meaning

@@ -4,7 +4,8 @@ ghost use Rattle.std.specs.Options.{isSome, mapped};
 ghost use Rattle.std.specs.Vec.{made};
 ghost use Rattle.models.specs.Shut.{shut-table};
 ghost use Rattle.flat.specs.Lists.{table-of};
-ghost use Rattle.flat.specs.WellFormed.{Well-formed, flat-table};
+ghost use Rattle.flat.specs.WellFormed.{Well-formed};
+ghost use Rattle.flat.specs.Meaning.{meaning};
 ghost use Rattle.flat.specs.Groups.{Blank};
 ghost use Rattle.flat.specs.Indexes.{Alike, table-by};
 use crate::description::Description;
@@ -38,8 +39,8 @@ impl Flat {
     /// The flat model on the lists: its table is what they describe if they are well-formed, else that of the shut model.
     pub fn new(room: Room, lists: Description) -> Flat
         ensures value { λ r. ⌜ r .lists ≡ lists ⌝ }
-        ensures described { λ r. ⌜ (Well-formed lists → flat-table (r .lists) ≡ table-of lists) ⌝ }
-        ensures shut { λ r. ⌜ ((Well-formed lists → ⊥) → flat-table (r .lists) ≡ shut-table) ⌝ }
+        ensures described { λ r. ⌜ (Well-formed lists → meaning r ≡ table-of lists) ⌝ }
+        ensures shut { λ r. ⌜ ((Well-formed lists → ⊥) → meaning r ≡ shut-table) ⌝ }
     {
         let index = Index::new(room, &lists);
         Flat { lists, index }
@@ -54,7 +55,7 @@ impl Flat {
 
     fn index(&self) -> Option<&Index>
         ensures decides { λ r. ⌜ Decides (isSome r) (Well-formed (now (self .entry) .lists)) ⌝ }
-        ensures answers { λ r. ⌜ Alike (table-by (now (self .entry) .lists) (mapped (λ i. i .now) r)) (flat-table (now (self .entry) .lists)) ⌝ }
+        ensures answers { λ r. ⌜ Alike (table-by (now (self .entry) .lists) (mapped (λ i. i .now) r)) (meaning (now (self .entry))) ⌝ }
     {
         self.index.as_ref()
     }
@@ -68,7 +69,7 @@ impl Flat {
 }
 
 pub impl Model for Flat as FlatModel {
-    ghost table = { λ f. flat-table (f .lists) };
+    ghost table = { meaning };
 
     fn shape(&self) -> Shape {
         match self.index() {
