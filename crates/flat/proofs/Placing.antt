@@ -13,7 +13,6 @@ use Rattle.std.specs.Finite.{nth}
 use Rattle.std.specs.Of.Vec.{vec-items, vec-len}
 use Rattle.std.proofs.shelf.Lists.{at-drop-more, at-drop-all, length-take, nil-from-length, take-all}
 use Rattle.std.proofs.shelf.Tests.{and-parts, and-left, and-right, and-from, cases-bool, ltb-true, ltb-false, lt-ltb, lt-leb, le-leb}
-use Rattle.rows.specs.declared.row.Row.{Row}
 use Rattle.rows.specs.Lawful.{is-lawful}
 use Rattle.flat.specs.declared.description.AttachedRow.{AttachedRow}
 use Rattle.flat.specs.declared.group.Group.{Group}

@@ -1,6 +1,6 @@
 -- Where runs stay, and that a table without bad locations avoids them.
 use mathlib.Core.Path.{_≡_, refl}
-use mathlib.Core.Bool.{true, false}
+use mathlib.Core.Bool.{false}
 use mathlib.Core.Logic.{inl, inr}
 use Prim.Native.Nat.{ℕ, _≤_, _<_}
 use native.Mathlib.Omega.{arith}
@@ -9,7 +9,6 @@ use Rattle.std.proofs.shelf.Tests.{both-ways, cases-lt}
 use Rattle.rows.specs.Points.{Setting, Meets}
 use Rattle.rows.specs.Moves.{at}
 use Rattle.models.specs.Tables.{Table, Limits}
-use Rattle.models.specs.Shut.{shut-table}
 use Rattle.models.specs.Runs.{State, Run, begins, waits, steps, Avoids-bad, Has-bad}
 use Rattle.models.specs.Laws.{Run-laws}
 

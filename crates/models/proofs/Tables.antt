@@ -1,14 +1,8 @@
 -- The tests of a table's numbers and edges decide their limits, and the shut model keeps all of them.
-use mathlib.Core.Path.{_≡_}
-use mathlib.Core.Bool.{true}
-use Prim.Native.Nat.{_≤_, _<_}
 use native.Mathlib.Omega.{arith}
 use borrow.Author.Needs.{needs}
-use lib.Dec.{leb, ltb}
 use Rattle.std.specs.Orderings.{Decides}
-use Rattle.std.proofs.shelf.Tests.{lt-ltb, le-leb, and-from}
 use Rattle.std.proofs.shelf.Ways.{tells}
-use Rattle.rows.specs.Moves.{is-within-clocks}
 use Rattle.rows.proofs.Clocks.{within-clocks-decides}
 use Rattle.models.specs.declared.shape.Shape.{Shape}
 use Rattle.models.specs.declared.edge.Edge.{Edge}

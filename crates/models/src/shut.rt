@@ -1,4 +1,3 @@
-ghost use mathlib.Core.Path.{_≡_};
 ghost use Rattle.models.specs.Shut.{shut-table};
 use crate::edge::Edge;
 use crate::model::Model;

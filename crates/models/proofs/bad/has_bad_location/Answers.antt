@@ -1,6 +1,6 @@
 use mathlib.Core.Path.{_≡_, ap}
 use mathlib.Core.Bool.{false}
-use Prim.Native.Nat.{ℕ, _≤_}
+use Prim.Native.Nat.{ℕ}
 use native.Mathlib.Omega.{arith}
 use Rattle.models.specs.declared.shape.Shape.{Shape}
 use Rattle.models.proofs.Runs.{none-bad, decides-none, avoids-none}

@@ -1,7 +1,6 @@
 use mathlib.Core.Path.{_≡_, refl, sym, ap, _∙_}
 use mathlib.Core.Bool.{Bool, true, _&&_}
 use mathlib.Core.List.{List}
-use Prim.Native.Nat.{ℕ}
 use native.Mathlib.Omega.{arith}
 use lib.Dec.{ltb}
 use lib.ListN.{length}
@@ -20,9 +19,10 @@ returns-in-Some c =
     let v = c .args .self .now .each in
     let i = c .args .owner in
     let f = c .in-Some .ensures tt .finds in
-    let l = ltb-true i (vec-len v) (sym (f .0)) in
+    let t : ltb i (vec-len v) ≡ true = sym (f .0) in
+    let l = ltb-true i (vec-len v) t in
     let e = listed-read (vec-items v) (vec-len v) i (c .in-Some .group .now) (v .ok .0) l (f .1) in
     record {
-      value = asked (ltb i (vec-len v)) _ _ (c .push .result) (sym (f .0)) e (c .push .ensures .value);
+      value = asked (ltb i (vec-len v)) _ _ (c .push .result) t e (c .push .ensures .value);
       after = record { count = refl; each = listed-added (vec-items v) i (c .in-Some .group .now) (c .push .last .self) (c .args .row) (c .push .result) (omega (arith, v .ok .0)) e (c .push .ensures .after) };
     }

@@ -1,4 +1,3 @@
-use native.Mathlib.Omega.{arith}
 use Rattle.flat.proofs.Placing.{placed-none, placed-no, placed-more, placed-all}
 use Rattle.flat.proofs.group.Groups.filled.Needs as need
 

@@ -1,6 +1,5 @@
 use mathlib.Core.Path.{ap, _∙_}
 use mathlib.Core.List.{List}
-use lib.ListN.{length}
 use Rattle.std.specs.Finite.{nth}
 use Rattle.flat.specs.declared.group.Group.{Group}
 use Rattle.flat.proofs.Fronts.{nth-found}
