@@ -2,20 +2,22 @@
 use mathlib.Core.Path.{_≡_, refl, sym, ap, _∙_}
 use mathlib.Core.Bool.{Bool, true, false, cond, _&&_, _||_}
 use mathlib.Core.List.{List, [], _∷_, _++_, map}
-use mathlib.Core.Logic.{inl, inr}
+use mathlib.Core.Logic.{_⊎_, inl, inr}
 use Prim.Native.Nat.{ℕ, zero, suc, max, _+_, _≤_, _<_}
 use native.Mathlib.Omega.{arith}
 use lib.Dec.{eqb, leb}
 use lib.ListN.{length, getD, take, drop}
-use Rattle.std.specs.shelf.Lists.{kept-by}
+use Rattle.std.specs.Orderings.{Decides}
+use Rattle.std.specs.shelf.Lists.{At, kept-by}
 use Rattle.std.proofs.shelf.Elements.{kept-by-append, kept-by-more}
 use Rattle.std.proofs.shelf.Lists.{append-nil, map-append, length-map, length-append, length-push, take-append-drop, take-more}
 use Rattle.std.proofs.shelf.Tests.{cases-lt, cond-true, eq-eqb}
-use Rattle.std.proofs.shelf.Ways.{tells}
+use Rattle.std.proofs.shelf.Ways.{tells, decides-eqb, decides-by-or}
 use Rattle.rows.specs.declared.row.Row.{Row}
 use Rattle.models.specs.declared.edge.Edge.{Edge}
 use Rattle.flat.specs.declared.description.AttachedRow.{AttachedRow}
 use Rattle.flat.specs.Lists.{rows-of, largest, carries, uses-action}
+use Rattle.flat.specs.Laws.{List-laws}
 
 pub largest-bound : (f : ℕ → ℕ) (n b : ℕ) → ((q : ℕ) → q < n → f q ≤ b) → largest f n ≤ b
 largest-bound f zero b h = omega arith
@@ -76,3 +78,28 @@ uses-action-more es i d x l =
   where
     spread : (b : Bool) (a : ℕ) → ((leb 1 x && leb x 15) && (b || eqb a x)) ≡ (((leb 1 x && leb x 15) && b) || ((leb 1 a && leb a 15) && eqb a x))
     spread b a = grind (arith, tells)
+
+carries-decides : (es : List Edge) (x : ℕ) → Decides (carries es x) ((k : ℕ) × (k < length es) × At (λ e. e .action ≡ x) es k)
+carries-decides es x = decides-by-or (λ e. eqb (e .action) x) (λ e. e .action ≡ x) (λ ys. carries ys x) (λ e. decides-eqb (e .action) x) refl (λ _ _. refl) es
+
+used-decides : (es : List Edge) (x : ℕ) → Decides (uses-action es x) ((1 ≤ x) × (x ≤ 15) × ((k : ℕ) × (k < length es) × At (λ e. e .action ≡ x) es k))
+used-decides es x =
+    let d = carries-decides es x in (
+      λ h. let c : carries es x ≡ true = grind arith in (grind (arith, tells), grind (arith, tells), d .0 c),
+      λ h. let a = h .0 in let b = h .1 in let c = d .1 (h .2) in grind (arith, tells),
+    )
+
+largest-attained : (f : ℕ → ℕ) (n : ℕ) → (largest f n ≡ 0) ⊎ ((q : ℕ) × (q < n) × (f q ≡ largest f n))
+largest-attained f zero = inl refl
+largest-attained f (suc n) =
+    elim (cases-lt (largest f n) (f n)) [
+      | inl l ↦ inr (n, omega arith, omega arith)
+      | inr l ↦ elim (largest-attained f n) [ inl z ↦ inl (omega arith) | inr q ↦ inr (q .0, omega (arith, q .1), omega (arith, q .2)) ]
+    ]
+
+pub list-laws : List-laws
+list-laws = record {
+  used = used-decides;
+  bound = λ n es. largest-has (λ q. length (rows-of q es)) n;
+  attained = λ n es. largest-attained (λ q. length (rows-of q es)) n;
+}

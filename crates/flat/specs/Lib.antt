@@ -3,3 +3,4 @@ pub mod WellFormed
 pub mod Groups
 pub mod Indexes
 pub mod Meaning
+pub mod Laws

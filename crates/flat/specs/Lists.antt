@@ -1,4 +1,4 @@
--- What the four lists of a flat model say.
+-- The table that the four lists of a flat model describe.
 use mathlib.Core.Bool.{Bool, false, _&&_, _||_}
 use mathlib.Core.List.{List, [], _∷_, map}
 use Prim.Native.Nat.{ℕ, zero, suc, max}
@@ -44,6 +44,7 @@ abbrev pub is-bad : Option Location → Bool
 is-bad None = false
 is-bad (Some l) = l .bad
 
+-- the numbers of that table
 abbrev pub shape-of : Description → Shape
 shape-of d = record {
   clocks = d .clocks;
@@ -55,7 +56,7 @@ shape-of d = record {
   guards = most-rows (length (vec-items (d .edges))) (vec-items (d .guards));
 }
 
--- the table that the lists say
+-- the table that the lists describe
 abbrev pub table-of : Description → Table
 table-of d = record {
   shape = shape-of d;

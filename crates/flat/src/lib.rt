@@ -6,6 +6,7 @@ mod group;
 mod groups;
 mod index;
 mod indexing;
+mod laws;
 mod lookup;
 mod model;
 mod room;

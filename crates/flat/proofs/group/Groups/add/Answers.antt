@@ -19,7 +19,7 @@ returns-in-Some c =
     let v = c .args .self .now .each in
     let i = c .args .owner in
     let f = c .in-Some .ensures tt .finds in
-    let t : ltb i (vec-len v) ≡ true = sym (f .0) in
+    let t : ltb i (vec-len v) ≡ true = sym {b = ltb i (vec-len v)} (f .0) in
     let l = ltb-true i (vec-len v) t in
     let e = listed-read (vec-items v) (vec-len v) i (c .in-Some .group .now) (v .ok .0) l (f .1) in
     record {
