@@ -1,4 +1,4 @@
--- The facts about an index, out of the invariant of a flat model. Each is an equation between values, so it holds in one way.
+-- The facts about an index, out of the ghost field of a flat model. Each is an equation between values, so it holds in one way.
 use mathlib.Core.Path.{_≡_, ap}
 use mathlib.Core.Logic.{∥∥₁-elim}
 use Prim.Native.Nat.{ℕ}

@@ -1,5 +1,4 @@
--- The rows that groups list, and how a list is sorted into groups. Nothing here has to be believed: the contracts of the flat
--- model do not speak of groups.
+-- The rows that groups list, and how a list is sorted into groups: the inside of a flat model.
 use mathlib.Core.Path.{_≡_}
 use mathlib.Core.Bool.{Bool, true, false, cond, _&&_}
 use mathlib.Core.List.{List, [], _∷_, _++_}

@@ -68,7 +68,7 @@ impl Group {
 }
 
 impl Groups {
-    // As many groups, without rows.
+    // `count` groups without rows.
     pub(crate) fn empty(heap: Global, count: usize) -> Result<Groups, AllocError>
         ensures made { λ r. ⌜ made r (λ gs. (vec-len (gs .each) ≡ count) × ((q : ℕ) → group-at gs q ≡ [])) ⌝ }
     {

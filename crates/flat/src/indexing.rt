@@ -31,7 +31,7 @@ fn fits(shape: &Shape, edges: &[Edge]) -> bool
 }
 
 impl Index {
-    // The index of the lists, or none where they are not well-formed: what the invariant of a flat model asks.
+    // The index of the lists, or none where they are not well-formed: what the ghost field of a flat model asks.
     pub(crate) fn new(room: Room, lists: &Description) -> Option<Index>
         ensures indexed { λ r. ⌜ ∥ Indexes (now (lists .entry)) r ∥₁ ⌝ }
     {

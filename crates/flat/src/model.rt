@@ -1,10 +1,11 @@
 ghost use mathlib.Core.Path.{_≡_};
+ghost use mathlib.Core.Bool.{true, false};
 ghost use Rattle.std.specs.Orderings.{Decides};
 ghost use Rattle.std.specs.Options.{isSome, mapped};
 ghost use Rattle.std.specs.Vec.{made};
 ghost use Rattle.models.specs.Shut.{shut-table};
 ghost use Rattle.flat.specs.Lists.{table-of};
-ghost use Rattle.flat.specs.WellFormed.{Well-formed};
+ghost use Rattle.flat.specs.WellFormed.{Well-formed, is-well-formed};
 ghost use Rattle.flat.specs.Meaning.{meaning};
 ghost use Rattle.flat.specs.Groups.{Blank};
 ghost use Rattle.flat.specs.Indexes.{Alike, table-by};
@@ -36,7 +37,9 @@ impl Room {
 }
 
 impl Flat {
-    /// The flat model on the lists: its table is what they describe if they are well-formed, else that of the shut model.
+    /// The flat model on the lists: its table is the one that they describe if they are well-formed, else that of the shut
+    /// model. Lists are well-formed when the numbers are within the limits of models, no location or edge has more than 8
+    /// rows, every row is lawful, and no location, edge or clock is named that is not there.
     pub fn new(room: Room, lists: Description) -> Flat
         ensures value { λ r. ⌜ r .lists ≡ lists ⌝ }
         ensures described { λ r. ⌜ (Well-formed lists → meaning r ≡ table-of lists) ⌝ }
@@ -54,15 +57,21 @@ impl Flat {
     }
 
     fn index(&self) -> Option<&Index>
+        ensures value { λ r. ⌜ isSome r ≡ is-well-formed (now (self .entry) .lists) ⌝ }
         ensures decides { λ r. ⌜ Decides (isSome r) (Well-formed (now (self .entry) .lists)) ⌝ }
+        ensures described { λ r. ⌜ (isSome r ≡ true → meaning (now (self .entry)) ≡ table-of (now (self .entry) .lists)) ⌝ }
+        ensures shut { λ r. ⌜ (isSome r ≡ false → meaning (now (self .entry)) ≡ shut-table) ⌝ }
         ensures answers { λ r. ⌜ Alike (table-by (now (self .entry) .lists) (mapped (λ i. i .now) r)) (meaning (now (self .entry))) ⌝ }
     {
         self.index.as_ref()
     }
 
-    /// Whether the lists make a model; if not, this is the shut model.
+    /// Whether the lists are well-formed. If so, the model is the one that they describe, else it is the shut model.
     pub fn is_well_formed(&self) -> bool
+        ensures value { λ r. ⌜ r ≡ is-well-formed (now (self .entry) .lists) ⌝ }
         ensures decides { λ r. ⌜ Decides r (Well-formed (now (self .entry) .lists)) ⌝ }
+        ensures described { λ r. ⌜ (r ≡ true → meaning (now (self .entry)) ≡ table-of (now (self .entry) .lists)) ⌝ }
+        ensures shut { λ r. ⌜ (r ≡ false → meaning (now (self .entry)) ≡ shut-table) ⌝ }
     {
         self.index().is_some()
     }

@@ -5,7 +5,8 @@ ghost use Rattle.std.specs.Of.Vec.{vec-len};
 ghost use Rattle.flat.specs.Groups.{group-at};
 use crate::group::Groups;
 
-/// The memory that a flat model needs: a group without rows for each location and each edge that there may be.
+/// The memory that one flat model needs, whatever its lists: space for the rows of every location and every edge that there
+/// may be.
 #[derive(Drop)]
 pub struct Room {
     pub(crate) invariants: Groups,

@@ -28,7 +28,7 @@ const WRITING: AttachedRow = AttachedRow {
     },
 };
 
-// Edge 1 is taken when the last renewal is at least p2 ago.
+// Edge 1 may be taken when the last renewal is at least p2 ago.
 const SILENT: AttachedRow = AttachedRow {
     owner: 1,
     row: Row {

@@ -20,7 +20,7 @@ const TERM: Row = Row {
 
 const PARAMETERS: u8 = 2;
 
-// One second is a thousand units.
+// One unit of time is a second, so a value of 1 is a millisecond.
 const SCALE: u32 = 1000;
 
 // How the setting stands to the term: the end of a sentence.
@@ -55,6 +55,9 @@ fn main(rt: LibcRuntime) -> Result<(), AnyError> {
         "An editor of a drawing must renew within p1; a silent editor keeps it for p2."
     )?;
     let model = lists::lease(rt.alloc())?;
+    if !model.is_well_formed() {
+        return Err("the lists of the lease are not well-formed".into());
+    }
     report_model(&rt, &model)?;
     println!(
         rt,

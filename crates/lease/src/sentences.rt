@@ -1,6 +1,7 @@
 use models::Model;
 use report::Formula;
 use report::FormulaDisplay;
+use rows::ClockSet;
 use std::error::AnyError;
 
 fn report_location<M: Model>(rt: &LibcRuntime, model: &M, location: u8) -> Result<(), AnyError> {
@@ -15,15 +16,25 @@ fn report_location<M: Model>(rt: &LibcRuntime, model: &M, location: u8) -> Resul
     Ok(())
 }
 
+fn report_resets(rt: &LibcRuntime, resets: &ClockSet) -> Result<(), AnyError> {
+    for c in 1..=6 {
+        if resets.has(c) {
+            println!(rt, "  resets clock {c}")?;
+        }
+    }
+    Ok(())
+}
+
 fn report_slot<M: Model>(rt: &LibcRuntime, model: &M, slot: u16) -> Result<(), AnyError> {
     let Some(edge) = model.edge(slot) else {
         return Ok(());
     };
     let source = edge.source;
     let target = edge.target;
+    let action = edge.action;
     println!(
         rt,
-        "Edge {slot} leads from location {source} to location {target}."
+        "Edge {slot} with action {action} leads from location {source} to location {target}."
     )?;
     for k in 0..model.guard_count(slot) {
         if let Some(row) = model.guard_row(slot, k) {
@@ -31,7 +42,7 @@ fn report_slot<M: Model>(rt: &LibcRuntime, model: &M, slot: u16) -> Result<(), A
             println!(rt, "  guard: {formula}")?;
         }
     }
-    Ok(())
+    report_resets(rt, &edge.resets)
 }
 
 // The locations of any model with their invariants, and its edges with their guards.

@@ -13,13 +13,15 @@ pub trait Model {
     /// The table that the model means.
     ghost table: { Self → Table };
 
+    /// The table keeps the limits of models.
     law limits: { (x : Self) → Limits (table x) };
 
-    /// The numbers of the table.
+    /// How many clocks, parameters, locations and slots there are, the first location, and the two row figures.
     fn shape(&self) -> Shape
         ensures value { λ r. ⌜ r ≡ table (now (self .entry)) .shape ⌝ };
 
-    /// Whether the model uses the action, so that a partner takes it only together with the model.
+    /// Whether the action is one of those that the model uses: in a pair, the other side takes such an action, unless it is
+    /// 0, only together with the model.
     fn uses(&self, action: u8) -> bool
         ensures value { λ r. ⌜ r ≡ table (now (self .entry)) .uses action ⌝ };
 

@@ -4,7 +4,8 @@ use crate::model::Model;
 use crate::shape::Shape;
 use rows::Row;
 
-/// The shut model: one location, which is bad, and nothing else. It is never safe, so it stands for what is no model.
+/// The shut model: one location, which is bad, and nothing else. Its bad location is reached at every setting, so it takes
+/// the place of a model that cannot be made.
 #[derive(Clone, Copy)]
 pub struct Shut;
 

@@ -25,6 +25,14 @@ pub(crate) fn row(i: u8, j: u8, t0: i32) -> Row {
     }
 }
 
+// The same bound, strict.
+pub(crate) fn strictly(row: Row) -> Row {
+    Row {
+        strict: true,
+        ..row
+    }
+}
+
 // x1 - x0 <= t0 units + t1 p1 + ...
 pub(crate) fn bound(t: [i32; 7]) -> Row {
     Row {
@@ -95,8 +103,13 @@ pub(crate) fn flat(heap: Global, lists: Description) -> Result<Flat, AllocError>
     Ok(Flat::new(Room::new(heap)?, lists))
 }
 
-// Whether the lists make a model, or else the shut model.
+// Whether the lists make a model that is not shut, if `model`, or the shut model, if not; and are given back either way.
 pub(crate) fn gives(heap: Global, lists: Description, model: bool) -> Result<bool, AllocError> {
+    let edges = lists.edges.len();
     let made = flat(heap, lists)?;
-    Ok(made.is_well_formed() == model && is_shut(&made) != model)
+    Ok(
+        made.is_well_formed() == model
+            && is_shut(&made) != model
+            && made.lists().edges.len() == edges,
+    )
 }

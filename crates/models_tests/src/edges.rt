@@ -8,20 +8,26 @@ use std::alloc::AllocError;
 use std::alloc::Global;
 use std::test::*;
 
-const CLOCK_3: ClockSet = ClockSet {
-    members: [false, false, true, false, false, false],
-};
+// The clock of that place and no other.
+fn clock(place: usize) -> ClockSet {
+    let mut members = [false; 6];
+    if place < 6 {
+        members[place] = true;
+    }
+    ClockSet { members }
+}
 
-// Whether the edge, with another after it, makes a model of 64 locations and so many clocks, or the shut model.
+// Whether the edge, between two others, makes a model of 64 locations and so many clocks, or the shut model.
 fn is_right(heap: Global, clocks: u8, tried: Edge, model: bool) -> Result<bool, AllocError> {
     let mut given = lists(heap, 64, 0)?;
+    let other = edge(0, 0, 1, NO_CLOCKS);
     given.clocks = clocks;
-    given.edges = vec![in heap; tried, edge(0, 0, 1, NO_CLOCKS)]?;
+    given.edges = vec![in heap; other, tried, other]?;
     gives(heap, given, model)
 }
 
 // Each limit of an edge, at it and past it.
-fn cases() -> [(u8, Edge, bool); 9] {
+fn cases() -> [(u8, Edge, bool); 13] {
     [
         (6, edge(63, 0, 1, NO_CLOCKS), true),
         (6, edge(64, 0, 1, NO_CLOCKS), false),
@@ -29,8 +35,12 @@ fn cases() -> [(u8, Edge, bool); 9] {
         (6, edge(0, 64, 1, NO_CLOCKS), false),
         (6, edge(0, 0, 15, NO_CLOCKS), true),
         (6, edge(0, 0, 16, NO_CLOCKS), false),
-        (3, edge(0, 0, 1, CLOCK_3), true),
-        (2, edge(0, 0, 1, CLOCK_3), false),
+        (3, edge(0, 0, 1, clock(2)), true),
+        (2, edge(0, 0, 1, clock(2)), false),
+        (6, edge(0, 0, 1, clock(5)), true),
+        (5, edge(0, 0, 1, clock(5)), false),
+        (1, edge(0, 0, 1, clock(0)), true),
+        (0, edge(0, 0, 1, clock(0)), false),
         (0, edge(0, 0, 1, NO_CLOCKS), true),
     ]
 }

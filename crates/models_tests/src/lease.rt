@@ -69,7 +69,7 @@ fn has_its_numbers(model: &Flat) -> bool {
         && shape.guards == 1
 }
 
-// Location 1 is bad, and action 1 is used: it is internal edges that have action 0.
+// Location 1 is bad and no other; action 1 is used and no other, since action 0 is never used.
 fn has_its_marks(model: &Flat) -> bool {
     for x in 0..=255u8 {
         if model.bad(x) != (x == 1) || model.uses(x) != (x == 1) {
@@ -114,10 +114,14 @@ fn has_its_guards(model: &Flat) -> bool {
 
 fn has_its_lists(model: &Flat) -> bool {
     let lists = model.lists();
-    lists.locations.len() == 2
+    lists.clocks == 1
+        && lists.parameters == 2
+        && lists.first == 0
+        && lists.locations.len() == 2
         && lists.invariants.len() == 1
-        && lists.edges.len() == 2
         && lists.guards.len() == 1
+        && lists.edges.len() == 2
+        && is_edge(lists.edges.get(1).copied(), 0, 1, 0, NO_CLOCKS)
 }
 
 #[test]

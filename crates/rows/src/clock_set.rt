@@ -13,8 +13,8 @@ pub struct ClockSet {
     pub members: [bool; MAX_CLOCKS],
 }
 
-// Whether place c, where clock c + 1 stands, is empty or is that of one of the first so many clocks.
-fn is_within_clocks(clocks: u8, c: usize, member: bool) -> bool
+// Whether place c, where clock c + 1 stands, is empty or is that of one of the first `clocks` clocks.
+fn is_place_within(clocks: u8, c: usize, member: bool) -> bool
     ensures { λ r. ⌜ r ≡ (not member || ltb c clocks) ⌝ }
 {
     !member || c < clocks as usize
@@ -32,7 +32,7 @@ impl ClockSet {
         self.members[c - 1]
     }
 
-    /// Whether the set has none but the first so many clocks.
+    /// Whether every clock of the set is one of the first `clocks` clocks.
     pub fn is_within(&self, clocks: u8) -> bool
         ensures decides { λ r. ⌜ Decides r (Within-clocks clocks (now (self .entry))) ⌝ }
         ensures value { λ r. ⌜ r ≡ is-within-clocks clocks (now (self .entry)) ⌝ }
@@ -45,7 +45,7 @@ impl ClockSet {
         ensures value { λ r. ⌜ r ≡ is-within-clocks clocks (now (self .entry)) ⌝ }
     {
         for (c, member) in self.members.iter().enumerate() {
-            if !is_within_clocks(clocks, c, *member) {
+            if !is_place_within(clocks, c, *member) {
                 return false;
             }
         }

@@ -35,6 +35,18 @@ fn a_set_has_its_clocks() -> Result<(), Fail> {
 }
 
 #[test]
+fn a_set_is_within_its_last_clock() -> Result<(), Fail> {
+    check(ENDS.is_within(6))?;
+    check(ENDS.is_within(255))?;
+    check(!ENDS.is_within(5))?;
+    check(!ENDS.is_within(0))?;
+    let none = ClockSet {
+        members: [false; 6],
+    };
+    check(none.is_within(0))
+}
+
+#[test]
 fn a_reset_clock_becomes_mark_0() -> Result<(), Fail> {
     check(on_marks(row(1, 0).before_reset(&ENDS), 0, 0))?;
     check(on_marks(row(0, 6).before_reset(&ENDS), 0, 0))?;

@@ -16,16 +16,16 @@ more : (m : ℕ) (bs : List Bool) (c : ℕ) → c < length bs → are-within-clo
 more m bs c h =
     at-drop-more (are-within-clocks m c) bs c false h ∙ ap (λ d. (not (getD bs c false) || ltb c m) && are-within-clocks m d (drop (c + 1) bs)) (omega arith)
 
-pub returns-then-not-is-within-clocks : need.returns-then-not-is-within-clocks
-returns-then-not-is-within-clocks c =
+pub returns-then-not-is-place-within : need.returns-then-not-is-place-within
+returns-then-not-is-place-within c =
     let m = c .args .clocks in
     let set = c .args .self .now in
-    let e = asked-no _ _ _ _ _ (more m (set .members) (c .loop-c .c) (omega arith)) (c .loop-c .inv) (c .is-within-clocks .ensures) (c .if-not-is-within-clocks .taken) in
+    let e = asked-no _ _ _ _ _ (more m (set .members) (c .loop-c .c) (omega arith)) (c .loop-c .inv) (c .is-place-within .ensures) (c .if-not-is-place-within .taken) in
     record { decides = decides-at _ _ e (within-clocks-decides m set); value = e }
 
 pub loop-c-again : need.loop-c-again
 loop-c-again c =
-    asked-more _ _ _ _ _ (more (c .args .clocks) (c .args .self .now .members) (c .loop-c .c) (omega arith)) (c .loop-c .inv) (c .is-within-clocks .ensures) (c .if-not-is-within-clocks .left)
+    asked-more _ _ _ _ _ (more (c .args .clocks) (c .args .self .now .members) (c .loop-c .c) (omega arith)) (c .loop-c .inv) (c .is-place-within .ensures) (c .if-not-is-place-within .left)
 
 pub returns : need.returns
 returns c =
