@@ -14,7 +14,7 @@ pub const MAX_ROWS: usize = 8;
 pub const LARGEST_ACTION: u8 = 15;
 
 /// How many actions there are, from 0 to the largest.
-pub const ACTIONS: usize = 16;
+pub const ACTIONS: usize = LARGEST_ACTION as usize + 1;
 
 /// The numbers of a model's table: how many clocks, parameters, locations and slots there are, the first location, and two
 /// bounds on the numbers of rows, the row figures.
