@@ -49,11 +49,12 @@ impl Flat {
         Flat { lists, index }
     }
 
-    /// The lists that the model stands on, as they were given.
-    pub fn lists(&self) -> &Description
-        ensures value { λ r. ⌜ now r ≡ now (self .entry) .lists ⌝ }
+    /// Gives the lists back as they were given, for instance to mend them.
+    pub fn into_lists(self) -> Description
+        ensures value { λ r. ⌜ r ≡ self .lists ⌝ }
     {
-        &self.lists
+        let Flat { lists, index: _ } = self;
+        lists
     }
 
     fn index(&self) -> Option<&Index>

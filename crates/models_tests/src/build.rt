@@ -107,9 +107,7 @@ pub(crate) fn flat(heap: Global, lists: Description) -> Result<Flat, AllocError>
 pub(crate) fn gives(heap: Global, lists: Description, model: bool) -> Result<bool, AllocError> {
     let edges = lists.edges.len();
     let made = flat(heap, lists)?;
-    Ok(
-        made.is_well_formed() == model
-            && is_shut(&made) != model
-            && made.lists().edges.len() == edges,
-    )
+    let answers = made.is_well_formed() == model && is_shut(&made) != model;
+    let back = made.into_lists();
+    Ok(answers && back.edges.len() == edges)
 }

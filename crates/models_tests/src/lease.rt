@@ -112,8 +112,7 @@ fn has_its_guards(model: &Flat) -> bool {
         && model.guard_row(1, 1).is_none()
 }
 
-fn has_its_lists(model: &Flat) -> bool {
-    let lists = model.lists();
+fn are_its_lists(lists: Description) -> bool {
     lists.clocks == 1
         && lists.parameters == 2
         && lists.first == 0
@@ -132,5 +131,5 @@ fn every_question(rt: LibcRuntime) -> Result<(), Fail> {
     check(has_its_invariants(&model)).note("invariants")?;
     check(has_its_edges(&model)).note("edges")?;
     check(has_its_guards(&model)).note("guards")?;
-    check(has_its_lists(&model)).note("lists")
+    check(are_its_lists(model.into_lists())).note("lists")
 }
