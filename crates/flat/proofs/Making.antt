@@ -20,7 +20,7 @@ use Rattle.flat.specs.declared.group.Groups.{Groups}
 use Rattle.flat.specs.Lists.{rows-of, largest, most-rows, uses-action, shape-of}
 use Rattle.flat.specs.WellFormed.{Well-formed, are-attached, are-admitted, is-well-formed, table-if}
 use Rattle.flat.specs.Groups.{group-at, Blank, Grouped, is-grouped, Sorts}
-use Rattle.flat.specs.Indexes.{Indexes}
+use Rattle.flat.specs.Indexes.{Gathered, Indexes}
 use Rattle.flat.proofs.Lists.{largest-like, largest-rest}
 use Rattle.flat.proofs.WellFormed.{well-formed-decides, not-well-formed, all-attached-decides, all-admitted-decides, rows-of-nobody}
 
@@ -102,26 +102,21 @@ module _ (d : Description) where
   tested : (h : Shape) (es : List Edge) (b : Bool) → h ≡ shape-of d → es ≡ vec-items (d .edges) → b ≡ (is-within-limits h && are-admitted h es) → fits-test (shape-of d) ≡ b
   tested h es b p q e = sym (e ∙ ap (λ xs. is-within-limits h && are-admitted h xs) q ∙ ap fits-test p)
 
-  pub none-unfit : (h : Shape) (es : List Edge) → h ≡ shape-of d → es ≡ vec-items (d .edges) → false ≡ (is-within-limits h && are-admitted h es) → Indexes d None
-  none-unfit h es p q e = none (unfit (tested h es false p q e))
+  module _ (i : Index) (es : List Edge) (g : Gathered d i) (q : es ≡ vec-items (d .edges)) where
+    pub none-unfit : false ≡ (is-within-limits (i .shape) && are-admitted (i .shape) es) → Indexes d None
+    none-unfit e = none (unfit (tested (i .shape) es false (g .shape) q e))
 
-  -- what is found of well-formed lists is their index
-  pub some-index : (i : Index) (es : List Edge) → i .shape ≡ shape-of d → es ≡ vec-items (d .edges) → true ≡ (is-within-limits (i .shape) && are-admitted (i .shape) es)
-      → invariants-test ≡ true → guards-test ≡ true
-      → Grouped (length (vec-items (d .locations))) (vec-items (d .invariants)) (i .invariants)
-      → Grouped (length (vec-items (d .edges))) (vec-items (d .guards)) (i .guards)
-      → ((x : ℕ) → getD (i .actions .members) x false ≡ uses-action (vec-items (d .edges)) x)
-      → Indexes d (Some i)
-  some-index i es p q f a b u v w =
-      let e : true ≡ is-well-formed d = sym (well-formed-decides d .1 (fit (tested (i .shape) es true p q f) a b)) in
-      record {
-        well-formed = e;
-        answers = record {
-          shape = p ∙ ap (λ t. table-if t d .shape) e;
-          uses = λ x. w x ∙ ap (λ t. table-if t d .uses x) e;
-          bad = λ q. ap (λ t. table-if t d .bad q) e;
-          invariant = λ q. u .each q ∙ ap (λ t. table-if t d .invariant q) e;
-          edge = λ k. ap (λ t. table-if t d .edge k) e;
-          guard = λ k. v .each k ∙ ap (λ t. table-if t d .guard k) e;
-        };
-      }
+    pub some-fit : true ≡ (is-within-limits (i .shape) && are-admitted (i .shape) es) → Indexes d (Some i)
+    some-fit f =
+        let e : true ≡ is-well-formed d = sym (well-formed-decides d .1 (fit (tested (i .shape) es true (g .shape) q f) (g .invariants .0) (g .guards .0))) in
+        record {
+          well-formed = e;
+          answers = record {
+            shape = g .shape ∙ ap (λ t. table-if t d .shape) e;
+            uses = λ x. g .actions x ∙ ap (λ t. table-if t d .uses x) e;
+            bad = λ k. ap (λ t. table-if t d .bad k) e;
+            invariant = λ k. g .invariants .1 .each k ∙ ap (λ t. table-if t d .invariant k) e;
+            edge = λ k. ap (λ t. table-if t d .edge k) e;
+            guard = λ k. g .guards .1 .each k ∙ ap (λ t. table-if t d .guard k) e;
+          };
+        }

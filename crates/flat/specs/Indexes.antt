@@ -2,7 +2,7 @@
 use mathlib.Core.Path.{_≡_}
 use mathlib.Core.Bool.{false}
 use Prim.Native.Nat.{ℕ}
-use lib.ListN.{getD}
+use lib.ListN.{length, getD}
 use Rattle.std.specs.declared.option.Option.{Option}
 use Rattle.std.specs.declared.option.Option.the-variants.{Some, None}
 use Rattle.std.specs.Finite.{nth}
@@ -12,9 +12,9 @@ use Rattle.models.specs.Tables.{Table}
 use Rattle.models.specs.Shut.{shut-table}
 use Rattle.flat.specs.declared.description.Description.{Description}
 use Rattle.flat.specs.declared.index.Index.{Index}
-use Rattle.flat.specs.Lists.{is-bad}
+use Rattle.flat.specs.Lists.{uses-action, is-bad, shape-of}
 use Rattle.flat.specs.WellFormed.{is-well-formed, flat-table}
-use Rattle.flat.specs.Groups.{group-at}
+use Rattle.flat.specs.Groups.{group-at, Sorts}
 
 -- two tables that answer every question alike
 pub record Alike (L R : Table) : Type 0 where
@@ -36,6 +36,13 @@ table-by d (Some i) = record {
   edge = nth (vec-items (d .edges));
   guard = group-at (i .guards);
 }
+
+-- an index with the lists' numbers, groups and actions, before the numbers and edges are held to their limits
+pub record Gathered (d : Description) (i : Index) : Type 0 where
+  pub shape : i .shape ≡ shape-of d
+  pub invariants : Sorts (length (vec-items (d .locations))) (d .clocks) (d .parameters) (vec-items (d .invariants)) (Some (i .invariants))
+  pub guards : Sorts (length (vec-items (d .edges))) (d .clocks) (d .parameters) (vec-items (d .guards)) (Some (i .guards))
+  pub actions : (x : ℕ) → getD (i .actions .members) x false ≡ uses-action (vec-items (d .edges)) x
 
 -- there is an index exactly where the lists are well-formed, and it says what they say
 pub record Indexes (d : Description) (o : Option Index) : Type 0 where

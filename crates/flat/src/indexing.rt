@@ -2,7 +2,7 @@ ghost use mathlib.Core.Path.{_≡_};
 ghost use mathlib.Core.Bool.{_&&_};
 ghost use Rattle.models.specs.Tables.{is-within-limits};
 ghost use Rattle.flat.specs.WellFormed.{are-admitted};
-ghost use Rattle.flat.specs.Indexes.{Indexes};
+ghost use Rattle.flat.specs.Indexes.{Gathered, Indexes};
 use crate::description::Description;
 use crate::index::ActionSet;
 use crate::index::Index;
@@ -60,15 +60,24 @@ impl Index {
             invariants: invariants.most(),
             guards: guards.most(),
         };
-        if !fits(&shape, &lists.edges) {
-            return None;
-        }
         let actions = ActionSet::of(&lists.edges);
-        Some(Index {
+        let gathered = Index {
             shape,
             invariants,
             guards,
             actions,
-        })
+        };
+        gathered.checked(lists)
+    }
+
+    // What was gathered from the lists is their index if their numbers and edges are such as a model may have.
+    fn checked(self, lists: &Description) -> Option<Index>
+        ensures indexes { λ r. ⌜ (Gathered (now (lists .entry)) self → Indexes (now (lists .entry)) r) ⌝ }
+    {
+        if fits(&self.shape, &lists.edges) {
+            Some(self)
+        } else {
+            None
+        }
     }
 }
