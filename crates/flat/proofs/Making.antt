@@ -4,7 +4,7 @@ use mathlib.Core.Bool.{Bool, true, false, _&&_}
 use mathlib.Core.List.{List}
 use Prim.Native.Nat.{ℕ, _≤_}
 use lib.Dec.{leb}
-use lib.ListN.{length, getD}
+use lib.ListN.{length}
 use Rattle.std.specs.declared.option.Option.{Option}
 use Rattle.std.specs.declared.option.Option.the-variants.{Some, None}
 use Rattle.std.specs.Of.Vec.{vec-items, vec-len}
@@ -17,7 +17,7 @@ use Rattle.flat.specs.declared.description.AttachedRow.{AttachedRow}
 use Rattle.flat.specs.declared.description.Description.{Description}
 use Rattle.flat.specs.declared.index.Index.{Index}
 use Rattle.flat.specs.declared.group.Groups.{Groups}
-use Rattle.flat.specs.Lists.{rows-of, largest, most-rows, uses-action, shape-of}
+use Rattle.flat.specs.Lists.{rows-of, largest, most-rows, shape-of}
 use Rattle.flat.specs.WellFormed.{Well-formed, are-attached, are-admitted, is-well-formed, table-if}
 use Rattle.flat.specs.Groups.{group-at, Blank, Grouped, is-grouped, Sorts}
 use Rattle.flat.specs.Indexes.{Gathered, Indexes}
