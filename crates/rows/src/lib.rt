@@ -1,4 +1,6 @@
 //! Rows: bounds on the difference of two marks, linear in the scale and the parameters.
+#![tactic(auto)]
+
 mod clock_set;
 mod laws;
 mod replace;

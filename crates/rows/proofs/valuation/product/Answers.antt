@@ -22,8 +22,8 @@ small z n f h =
 fits : (z : ℤ) → nat_abs z ≤ 2 ^ 63 → SFits w128 z
 fits z h = omega (arith, ints)
 
-pub overflow-mul-result : goal.overflow-mul-result
-overflow-mul-result c =
+pub overflow_mul-result : goal.overflow_mul-result
+overflow_mul-result c =
     let f : SFits w32 c.args.z = c.ranges.z in
     let g : SFits w128 c.args.z = omega (arith, ints) in
     let u : to_z w128 c.args.weight ≡ pos c.args.weight = omega (arith, ints) in

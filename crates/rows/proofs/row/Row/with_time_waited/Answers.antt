@@ -1,6 +1,8 @@
-use Rattle.std.proofs.Common.{rules}
+use Rattle.std.proofs.Common.{refl, arith}
+use Rattle.rows.specs.Moves.{at, waited}
 use Rattle.rows.proofs.row.Row.with_time_waited.Goals as goal
 
--- each part by a search of its own: one for both runs into its bounds
-pub returns : goal.returns
-returns c = record { value = search rules; law = search rules }
+-- the settings are one, and both marks are read later by the time waited
+pub returns-clause-law : goal.returns-clause-law
+returns-clause-law c i j s w d =
+    c.with_marks.ensures.law (waited s w d) (at s w) refl (omega (arith, c.mark_after_wait.ensures.law i w d, c.mark_after_wait-2.ensures.law j w d))

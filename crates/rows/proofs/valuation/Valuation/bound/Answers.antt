@@ -41,8 +41,8 @@ ended f ts c a l e =
     let n : a ≡ a +ℤ pos 0 = omega (arith, ints) in
     n ∙ ap (λ x. a +ℤ x) (sym z) ∙ e
 
-pub overflow-add-sum : goal.overflow-add-sum
-overflow-add-sum c =
+pub overflow_add-sum : goal.overflow_add-sum
+overflow_add-sum c =
     let g : SFits w128 c.product-sum.result = search rules in
     fits_still c.loop-c.c _ c.product-sum.result c.loop-c.auto.c-end g c.loop-c.invariant.1 c.product-sum.ensures.size
 

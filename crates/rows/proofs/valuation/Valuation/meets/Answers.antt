@@ -16,5 +16,5 @@ returns c =
     let k = c.args.self.now.scale in
     let vs = c.args.self.now.values.now in
     let r = c.args.row.now in
-    let e = compared k vs r c.bound.result c.is-above-zero.result (search rules) c.bound.ensures c.is-above-zero.ensures in
+    let e = compared k vs r c.bound.result c.is_above_zero.result (search rules) c.bound.ensures c.is_above_zero.ensures in
     record { tells = subst (Tells k vs r) (sym e) (met_tells k vs r); value = e }
