@@ -1,6 +1,6 @@
 -- Which lists make a model, and the table of a flat model.
 use Rattle.std.specs.Prelude.{ℕ, ◌<◌, Bool, true, false, ◌&&◌, List, [], ◌∷◌, length, vec_items, nat_lt}
-use Rattle.std.specs.List.{AllByRecursion as All}
+use Rattle.std.specs.List.{AllByRecursion}
 use Rattle.rows.specs.Lawful.{Lawful, is_lawful}
 use Rattle.models.specs.declared.shape.Shape.{Shape}
 use Rattle.models.specs.declared.edge.Edge.{Edge}
@@ -19,9 +19,9 @@ pub record Attached (owners m n : ℕ) (e : AttachedRow) : Type 0 where
 pub record WellFormed (d : Description) : Type 0 where
   -- the numbers, with the largest numbers of invariant rows of a location and of guard rows of an edge
   pub numbers : ShapeLimits (shape_of d)
-  pub edges : All (EdgeLimits (shape_of d)) (vec_items d.edges)
-  pub invariants : All (Attached (length (vec_items d.locations)) d.clocks d.parameters) (vec_items d.invariants)
-  pub guards : All (Attached (length (vec_items d.edges)) d.clocks d.parameters) (vec_items d.guards)
+  pub edges : AllByRecursion (EdgeLimits (shape_of d)) (vec_items d.edges)
+  pub invariants : AllByRecursion (Attached (length (vec_items d.locations)) d.clocks d.parameters) (vec_items d.invariants)
+  pub guards : AllByRecursion (Attached (length (vec_items d.edges)) d.clocks d.parameters) (vec_items d.guards)
 
 -- the same as tests, for definitions that have to decide
 

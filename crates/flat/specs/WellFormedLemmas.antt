@@ -1,7 +1,7 @@
 -- The test of the lists decides whether they are well-formed, and a table of well-formed lists keeps the limits of models.
 use Rattle.std.specs.Prelude.{◌≡◌, ℕ, zero, suc, ◌<◌, ◌≤◌, Bool, true, false, ◌&&◌, List, [], ◌∷◌, map, length, Some, None, vec_items, Decides, filter, ◌==◌, nat_eq, nat_lt, refl}
 use Rattle.std.proofs.Common.{ap, subst, ◌∙◌, inl, inr, arith}
-use Rattle.std.specs.List.{slice_get, AllByRecursion as All}
+use Rattle.std.specs.List.{slice_get, AllByRecursion}
 use Rattle.std.proofs.ByRecursion.{All-map, All-weaker, all_kept_by, Decides-by_and}
 use Rattle.std.proofs.lemmas.Option.{slice_get_past}
 use Rattle.std.proofs.lemmas.Bool.{cases_lt, cases_Bool, ne_eqb, cond-false}
@@ -23,10 +23,10 @@ attached_decides n m p e =
     Decides-like (is_attached n m p e) (λ h. record { known = h.0; lawful = h.1 }) (λ h. (h.known, h.lawful))
     (Decides-and (nat_lt e.owner n) (is_lawful m p e.row) (Decides-ltb e.owner n) (lawful_decides m p e.row))
 
-pub all_attached_decides : (n m p : ℕ) (es : List AttachedRow) → Decides (are_attached n m p es) (All (Attached n m p) es)
+pub all_attached_decides : (n m p : ℕ) (es : List AttachedRow) → Decides (are_attached n m p es) (AllByRecursion (Attached n m p) es)
 all_attached_decides n m p es = Decides-by_and (is_attached n m p) (Attached n m p) (are_attached n m p) (attached_decides n m p) refl (λ _ _. refl) es
 
-pub all_admitted_decides : (h : Shape) (es : List Edge) → Decides (are_admitted h es) (All (EdgeLimits h) es)
+pub all_admitted_decides : (h : Shape) (es : List Edge) → Decides (are_admitted h es) (AllByRecursion (EdgeLimits h) es)
 all_admitted_decides h es = Decides-by_and (is_admitted h) (EdgeLimits h) (are_admitted h) (admitted_decides h) refl (λ _ _. refl) es
 
 module _ (d : Description) where
@@ -51,7 +51,7 @@ module _ (d : Description) where
   pub not_well_formed : (WellFormed d → ⊥) → is_well_formed d ≡ false
   not_well_formed f = elim (cases_Bool (is_well_formed d)) [ inl e ↦ absurd (f (well_formed_decides.0 e)) | inr e ↦ e ]
 
-all_nth : {X : Type 0} (P : X → Type 0) (xs : List X) (k : ℕ) (x : X) → All P xs → slice_get xs k ≡ Some x → P x
+all_nth : {X : Type 0} (P : X → Type 0) (xs : List X) (k : ℕ) (x : X) → AllByRecursion P xs → slice_get xs k ≡ Some x → P x
 all_nth P [] k x h e = let z : ◌≡◌ {A = ℕ} 0 1 = cc in absurd (omega arith)
 all_nth P (y ∷ ys) zero x h e = let s : y ≡ x = cc in subst P s h.0
 all_nth P (y ∷ ys) (suc k) x h e = all_nth P ys k x h.1 e
@@ -63,17 +63,17 @@ nth_none (y ∷ ys) (suc k) e = let l = nth_none ys k e in omega arith
 
 module _ (n m p : ℕ) where
   -- who is not among the owners has no rows
-  pub rows_of_nobody : (q : ℕ) (es : List AttachedRow) → n ≤ q → All (Attached n m p) es → rows_of q es ≡ []
+  pub rows_of_nobody : (q : ℕ) (es : List AttachedRow) → n ≤ q → AllByRecursion (Attached n m p) es → rows_of q es ≡ []
   rows_of_nobody q [] l h = refl
   rows_of_nobody q (e ∷ es) l h =
       let k = h.0.known in
       ap (map (λ x. x.row)) (cond-false (e.owner == q) (e ∷ filter (λ x. nat_eq x.owner q) es) (filter (λ x. nat_eq x.owner q) es) (ne_eqb e.owner q (λ s. omega arith)))
       ∙ rows_of_nobody q es l h.1
 
-  few_of : (q : ℕ) (es : List AttachedRow) → All (Attached n m p) es → length (rows_of q es) ≤ most_rows n es
+  few_of : (q : ℕ) (es : List AttachedRow) → AllByRecursion (Attached n m p) es → length (rows_of q es) ≤ most_rows n es
   few_of q es h = elim (cases_lt q n) [ inl l ↦ largest_has (λ x. length (rows_of x es)) n q l | inr l ↦ omega (arith, ap length (rows_of_nobody q es l h)) ]
 
-  lawful_of : (q : ℕ) (es : List AttachedRow) → All (Attached n m p) es → All (Lawful m p) (rows_of q es)
+  lawful_of : (q : ℕ) (es : List AttachedRow) → AllByRecursion (Attached n m p) es → AllByRecursion (Lawful m p) (rows_of q es)
   lawful_of q es h =
       All-map (Lawful m p) (λ e. e.row) (filter (λ e. nat_eq e.owner q) es)
       (all_kept_by (λ e. nat_eq e.owner q) (λ e. Lawful m p e.row) es (All-weaker (Attached n m p) (λ e. Lawful m p e.row) (λ e o. o.lawful) es h))

@@ -1,4 +1,6 @@
 //! The flat model: a model that stands on four lists.
+#![tactic(auto)]
+
 mod actions;
 mod description;
 mod flat;

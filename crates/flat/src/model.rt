@@ -13,7 +13,7 @@ use crate::flat::Flat;
 use crate::group::Groups;
 use crate::index::Index;
 use crate::room::Room;
-use models::{Edge, MAX_LOCATIONS, MAX_SLOTS, Model, Shape, Shut, ShutModel};
+use models::{Edge, MAX_LOCATIONS, MAX_SLOTS, Model as TimedModel, Shape, Shut};
 use rows::Row;
 use std::alloc::{AllocError, Global};
 
@@ -70,7 +70,7 @@ impl Flat {
     }
 }
 
-pub impl Model for Flat as FlatModel {
+impl TimedModel for Flat {
     ghost table = { meaning };
 
     ghost limits = { λ x. flat_limits x.lists };

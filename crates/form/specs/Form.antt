@@ -1,6 +1,6 @@
 -- Which content a model text may have: the form of model texts.
 use Rattle.std.specs.Prelude.{◌≡◌, ℕ, ◌≤◌, List, [], ◌∷◌, length}
-use Rattle.std.specs.List.{AllByRecursion as All}
+use Rattle.std.specs.List.{AllByRecursion}
 use Rattle.models.specs.declared.shape.Shape.{Shape}
 use Rattle.models.specs.declared.edge.Edge.{Edge}
 use Rattle.models.specs.Tables.{ShapeLimits, EdgeLimits}
@@ -17,20 +17,20 @@ shape_of h = record { clocks = h.clocks; parameters = h.parameters; locations = 
 -- no row has a smaller owner than a row before it
 abbrev pub Rising : List AttachedRow → Type 0
 Rising [] = Unit {0}
-Rising (e ∷ es) = All (λ x. e.owner ≤ x.owner) es × Rising es
+Rising (e ∷ es) = AllByRecursion (λ x. e.owner ≤ x.owner) es × Rising es
 
 -- the rows of a table where there are so many owners
 pub record RowsLimits (owners : ℕ) (h : Heading) (es : List AttachedRow) : Type 0 where
-  pub attached : All (Attached owners h.clocks h.parameters) es
-  pub whole : All (λ e. length e.row.t ≡ 7) es
+  pub attached : AllByRecursion (Attached owners h.clocks h.parameters) es
+  pub whole : AllByRecursion (λ e. length e.row.t ≡ 7) es
   pub rising : Rising es
   pub few : (q : ℕ) → length (rows_of q es) ≤ 8
 
 -- the edges of a table
 pub record EdgesLimits (h : Heading) (es : List Edge) : Type 0 where
   pub few : length es ≤ 512
-  pub admitted : All (EdgeLimits (shape_of h)) es
-  pub whole : All (λ e. length e.resets.members ≡ 6) es
+  pub admitted : AllByRecursion (EdgeLimits (shape_of h)) es
+  pub whole : AllByRecursion (λ e. length e.resets.members ≡ 6) es
 
 -- the limits of models hold in the content, which may lack locations
 pub record Within (c : Content) : Type 0 where

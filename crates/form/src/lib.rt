@@ -1,3 +1,5 @@
+#![tactic(auto)]
+
 mod progress;
 
 pub use progress::{Heading, Kind, Latest, Progress, Stage};

@@ -1,9 +1,10 @@
 //! The lease of a drawing: its model, and which times meet the term that keeps two people from writing at once.
+#![tactic(auto)]
+
 mod lists;
 mod sentences;
 
 use anyhow::anyhow;
-use flat::FlatModel;
 use report::Formula;
 use rows::{Row, Valuation};
 use sentences::report_model;

@@ -1,7 +1,7 @@
 use Rattle.std.proofs.Common.{◌≡◌, ℕ, zero, suc, ◌+◌, ◌-◌, ◌*◌, ◌^◌, ◌<◌, ◌≤◌, Bool, true, false, cond, not, ◌&&◌, ◌||◌, eqb, ltb, leb, ◌⊎◌, List, [], ◌∷◌, ◌++◌, length, get_or, drop, ℤ, pos, negsuc, neg_ℤ, nat_abs, Some, None, decimal, Option, sym, refl, ap, ◌∙◌, subst, inl, inr, arith, rules}
 use lib.Dec.{eqb-suc-zero}
 use Rattle.std.specs.Int.{IsInRange}
-use Rattle.std.specs.List.{AllByRecursion as All}
+use Rattle.std.specs.List.{AllByRecursion}
 use Rattle.std.specs.Str.{all_ascii_digits}
 use Rattle.std.specs.Fmt.{signed_decimal}
 use Rattle.std.proofs.lemmas.Bool.{and_parts, and_from, or_parts, or_from, leb-true, le-leb, eqb-true, eqb-false, ne_eqb, ltb-true, cases_Bool, cond-true, cond-false}
@@ -19,7 +19,7 @@ abbrev read_on : ℕ → List ℕ → ℕ
 read_on n [] = n
 read_on n (c ∷ cs) = read_on (n * 10 + (c - 48)) cs
 
-own : IsNumeralModel (λ ds. All Digit ds) (read_on 0)
+own : IsNumeralModel (λ ds. AllByRecursion Digit ds) (read_on 0)
 own = numerals_by_fold _ (search rules) read_on (search rules)
 
 read_on_ge : (n : ℕ) (ds : List ℕ) → n ≤ read_on n ds
@@ -33,7 +33,7 @@ goes_on_out : (n c : ℕ) → Digit c → n ≤ 999999 → goes_on n c ≡ true
 goes_on_out n c d b = grind (arith, nat_tests)
 
 abbrev Read : ℕ → List ℕ → ℕ → Type 0
-Read n ds m = All Digit ds × (read_on n ds ≡ m) × (m < 10000000)
+Read n ds m = AllByRecursion Digit ds × (read_on n ds ≡ m) × (m < 10000000)
 
 digits_by : (n c : ℕ) (cs : List ℕ) (m : ℕ) (t : Bool) → goes_on n c ≡ t → cond t (digits_from (n * 10 + (c - 48)) cs) None ≡ Some m → (n * 10 + (c - 48) < 10000000 → digits_from (n * 10 + (c - 48)) cs ≡ Some m → Read (n * 10 + (c - 48)) cs m) → Read n (c ∷ cs) m
 digits_by n c cs m true q k ih =
@@ -46,7 +46,7 @@ digits_in : (n : ℕ) (ds : List ℕ) (m : ℕ) → n < 10000000 → digits_from
 digits_in n [] m b e = let q : n ≡ m = cc in (tt, q, omega arith)
 digits_in n (c ∷ cs) m b e = digits_by n c cs m (goes_on n c) refl e (λ f. digits_in (n * 10 + (c - 48)) cs m f)
 
-digits_out : (n : ℕ) (ds : List ℕ) → All Digit ds → read_on n ds < 10000000 → digits_from n ds ≡ Some (read_on n ds)
+digits_out : (n : ℕ) (ds : List ℕ) → AllByRecursion Digit ds → read_on n ds < 10000000 → digits_from n ds ≡ Some (read_on n ds)
 digits_out n [] a b = refl
 digits_out n (c ∷ cs) a b =
     rw (goes_on_out n c a.0 (omega (arith, read_on_ge (n * 10 + (c - 48)) cs))) (digits_out (n * 10 + (c - 48)) cs a.1 b)
@@ -114,7 +114,7 @@ numeral_in f z e = numeral_by f (is_minus f) z refl e
 no_minus : (n : ℕ) → n < 10000000 → is_minus (decimal n) ≡ false
 no_minus n b =
     let big : n < 2 ^ 64 = omega arith in
-    let d : All Digit (decimal n) = digits_decimal own n big in
+    let d : AllByRecursion Digit (decimal n) = digits_decimal own n big in
     let p = decimal_nonempty n big in
     let k : get_or (decimal n) 0 0 ≡ 45 → ⊥ = not_in_digits own (decimal n) 45 d (λ i. omega arith) 0 p in
     grind (arith, nat_tests)
@@ -126,10 +126,10 @@ numeral_out (negsuc n) b =
     let m : is_minus (45 ∷ d) ≡ true = grind (arith, nat_tests) in
     cond-true (is_minus (45 ∷ d)) (with_sign true (plain d)) (with_sign false (plain (45 ∷ d))) m ∙ rw (plain_out (suc n) b, eqb-suc-zero n)
 
-above_digits : (ds : List ℕ) → All Digit ds → All (λ c. 44 < c) ds
+above_digits : (ds : List ℕ) → AllByRecursion Digit ds → AllByRecursion (λ c. 44 < c) ds
 above_digits ds a = All-weaker Digit (λ c. 44 < c) (λ c d. omega arith) ds a
 
 -- a number in decimal has no comma, and nothing below
-pub signed_above : (z : ℤ) → Short z → All (λ c. 44 < c) (signed_decimal z)
+pub signed_above : (z : ℤ) → Short z → AllByRecursion (λ c. 44 < c) (signed_decimal z)
 signed_above (pos n) b = above_digits (decimal n) (digits_decimal own n (omega arith))
 signed_above (negsuc n) b = (omega arith, above_digits (decimal (suc n)) (digits_decimal own (suc n) (omega arith)))

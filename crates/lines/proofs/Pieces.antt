@@ -1,5 +1,5 @@
 use Rattle.std.proofs.Common.{◌≡◌, ℕ, Bool, true, false, cond, not, ◌&&◌, eqb, List, [], ◌∷◌, ◌++◌, map, sym, refl, ap, ◌∙◌, append_assoc, arith}
-use Rattle.std.specs.List.{flat_map, AllByRecursion as All}
+use Rattle.std.specs.List.{flat_map, AllByRecursion}
 use Rattle.std.proofs.lemmas.Bool.{true≢false, and_parts, not-true}
 use Rattle.lines.specs.Texts.{Line, Unbroken, ended, written, onto, pieces}
 
@@ -27,12 +27,12 @@ pub pieces_line : (l : Line) (xs : List ℕ) → Unbroken l → pieces (l ++ 10 
 pieces_line [] xs u = refl
 pieces_line (x ∷ l) xs u = rw (u.0, pieces_line l xs u.1)
 
-pub pieces_written : (ls : List Line) → All Unbroken ls → pieces (written ls) ≡ map ended ls
+pub pieces_written : (ls : List Line) → AllByRecursion Unbroken ls → pieces (written ls) ≡ map ended ls
 pieces_written [] u = refl
 pieces_written (l ∷ ls) u =
     ap pieces (append_assoc l (10 ∷ []) (written ls)) ∙ (pieces_line l (written ls) u.0 ∙ ap (λ (r : List (List ℕ)). ended l ∷ r) (pieces_written ls u.1))
 
-pub pieces_more : (ls : List Line) (more : List ℕ) → All Unbroken ls → pieces (written ls ++ more) ≡ map ended ls ++ pieces more
+pub pieces_more : (ls : List Line) (more : List ℕ) → AllByRecursion Unbroken ls → pieces (written ls ++ more) ≡ map ended ls ++ pieces more
 pieces_more [] more u = refl
 pieces_more (l ∷ ls) more u =
     ap pieces (append_assoc (ended l) (written ls) more ∙ append_assoc l (10 ∷ []) (written ls ++ more))

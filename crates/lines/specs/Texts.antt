@@ -1,6 +1,6 @@
 -- Texts and their lines.
 use Rattle.std.specs.Prelude.{◌≡◌, ℕ, false, cond, List, [], ◌∷◌, ◌++◌, ◌==◌}
-use Rattle.std.specs.List.{flat_map, AllByRecursion as All}
+use Rattle.std.specs.List.{flat_map, AllByRecursion}
 
 -- a line of a text, without its end
 abbrev pub Line : Type 0
@@ -8,7 +8,7 @@ Line = List ℕ
 
 -- no end of a line, byte 10, stands in it
 abbrev pub Unbroken : Line → Type 0
-Unbroken l = All (λ c. (c == 10) ≡ false) l
+Unbroken l = AllByRecursion (λ c. (c == 10) ≡ false) l
 
 -- a line with its end
 abbrev pub ended : Line → List ℕ

@@ -1,6 +1,6 @@
 -- Lines of values.
 use Rattle.std.specs.Prelude.{◌≡◌, ℕ, ◌<◌, List, [], ◌∷◌, ◌++◌, map, ℤ, unsigned_abs}
-use Rattle.std.specs.List.{AllByRecursion as All}
+use Rattle.std.specs.List.{AllByRecursion}
 use Rattle.std.specs.Fmt.{signed_decimal}
 use Rattle.lines.specs.Texts.{Line}
 
@@ -21,4 +21,4 @@ value_line vs = commas (map signed_decimal vs)
 -- the line is that of these numbers, each of at most seven digits
 pub record Valued (l : Line) (vs : List ℤ) : Type 0 where
   pub is : l ≡ value_line vs
-  pub short : All Short vs
+  pub short : AllByRecursion Short vs

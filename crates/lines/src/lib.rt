@@ -1,3 +1,5 @@
+#![tactic(auto)]
+
 pub fn nothing() -> u8 {
     0
 }

@@ -6,8 +6,8 @@ use crate::model::Model;
 
 /// Whether the model has a bad location. If it has none, no run reaches one, at any setting.
 pub fn has_bad_location<M: Model>(model: &M) -> bool
-    ensures decides { Decides result (HasBad (table model.now)) }
-    ensures law { result ≡ false → (s : Setting) → AvoidsBad (table model.now) s }
+    ensures decides { Decides result (HasBad (M.table model.now)) }
+    ensures law { result ≡ false → (s : Setting) → AvoidsBad (M.table model.now) s }
 {
     for location in 0..model.shape().locations {
         if model.bad(location) {

@@ -1,4 +1,6 @@
 //! Models: the table that a parametric timed automaton means, the interface that every model keeps, and runs.
+#![tactic(auto)]
+
 mod bad;
 mod edge;
 mod laws;

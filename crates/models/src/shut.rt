@@ -2,7 +2,7 @@ ghost use Rattle.models.specs.Shut.{shut_table};
 ghost use Rattle.std.proofs.Common.{rules};
 
 use crate::edge::Edge;
-use crate::model::Model;
+use crate::model::Model as TimedModel;
 use crate::shape::Shape;
 use rows::Row;
 
@@ -11,7 +11,7 @@ use rows::Row;
 #[derive(Clone, Copy)]
 pub struct Shut;
 
-pub impl Model for Shut as ShutModel {
+impl TimedModel for Shut {
     ghost table = { λ _. shut_table };
 
     ghost limits = { Prim.search rules };

@@ -1,4 +1,4 @@
-use flat::{AttachedRow, Description, Flat, FlatModel, Location, Room};
+use flat::{AttachedRow, Description, Flat, Location, Room};
 use models::{Edge, Model};
 use rows::{ClockSet, Row};
 use std::alloc::{AllocError, Global};

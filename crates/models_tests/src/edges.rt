@@ -1,5 +1,5 @@
 use crate::build::*;
-use flat::{Flat, FlatModel};
+use flat::Flat;
 use models::{Edge, Model};
 use rows::ClockSet;
 use std::alloc::{AllocError, Global};

@@ -1,5 +1,5 @@
 use crate::build::*;
-use flat::{Description, Flat, FlatModel, Location};
+use flat::{Description, Flat, Location};
 use models::{Edge, Model, has_bad_location};
 use rows::{ClockSet, Row};
 use std::alloc::{AllocError, Global};

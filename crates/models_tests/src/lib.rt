@@ -1,4 +1,6 @@
 //! Worked cases of models: the lease, each limit of the flat model, the order of rows, the shut model.
+#![tactic(auto)]
+
 #[cfg(test)]
 mod build;
 #[cfg(test)]

@@ -1,5 +1,5 @@
 use crate::build::*;
-use flat::{AttachedRow, Description, Flat, FlatModel};
+use flat::{AttachedRow, Description, Flat};
 use models::Model;
 use std::alloc::{AllocError, Global};
 use std::test::Fail;

@@ -1,6 +1,6 @@
 use crate::build::*;
-use flat::{Flat, FlatModel};
-use models::{Model, Shape, Shut, ShutModel, has_bad_location};
+use flat::Flat;
+use models::{Model, Shape, Shut, has_bad_location};
 use std::test::Fail;
 
 #[test]

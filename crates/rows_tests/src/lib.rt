@@ -1,4 +1,6 @@
 //! Worked numbers for rows, settings and formulas.
+#![tactic(auto)]
+
 #[cfg(test)]
 mod lawful;
 #[cfg(test)]

@@ -6,12 +6,12 @@ use Rattle.flat.proofs.indexing.are_admitted.Goals as goal
 
 pub returns-then-not-admits : goal.returns-then-not-admits
 returns-then-not-admits c =
-    record { value = asked_no _ _ _ _ _ (at_drop_more (are_admitted c.args.shape.now) c.args.edges.now c.loop-edge.edge_index _ (omega arith)) c.loop-edge.invariant c.admits.ensures.value c.if-not-admits.true }
+    record { value = asked_no _ _ _ _ _ (at_drop_more (are_admitted c.args.shape.now) c.args.edges.now c.loop-edge.edge-index _ (omega arith)) c.loop-edge.invariant c.admits.ensures.value c.if-not-admits.true }
 
 pub loop-edge-preserved : goal.loop-edge-preserved
 loop-edge-preserved c =
-    asked_more _ _ _ _ _ (at_drop_more (are_admitted c.args.shape.now) c.args.edges.now c.loop-edge.edge_index _ (omega arith)) c.loop-edge.invariant c.admits.ensures.value c.if-not-admits.false
+    asked_more _ _ _ _ _ (at_drop_more (are_admitted c.args.shape.now) c.args.edges.now c.loop-edge.edge-index _ (omega arith)) c.loop-edge.invariant c.admits.ensures.value c.if-not-admits.false
 
 pub returns : goal.returns
 returns c =
-    record { value = asked_all _ _ (at_drop_all (are_admitted c.args.shape.now) c.args.edges.now c.loop-edge.edge_index (omega arith)) c.loop-edge.invariant }
+    record { value = asked_all _ _ (at_drop_all (are_admitted c.args.shape.now) c.args.edges.now c.loop-edge.edge-index (omega arith)) c.loop-edge.invariant }

@@ -11,11 +11,11 @@ pub returns : goal.returns
 returns c =
     let f = c.args.self.now in
     let d = f.lists in
-    let e = c.as-ref.ensures.variant ∙ well_formed_is d f.index f.indexed in
+    let e = c.as_ref.ensures.variant ∙ well_formed_is d f.index f.indexed in
     record {
       value = e;
       decides = Decides-at _ _ e (well_formed_decides d);
       described = λ t. ap (λ b. table_if b d) (sym e ∙ t);
       shut = λ t. ap (λ b. table_if b d) (sym e ∙ t);
-      answers = subst (λ (o : Option Index). Alike (table_by d o) (flat_table d)) (sym c.as-ref.ensures.value) (answers_are d f.index f.indexed);
+      answers = subst (λ (o : Option Index). Alike (table_by d o) (flat_table d)) (sym c.as_ref.ensures.value) (answers_are d f.index f.indexed);
     }

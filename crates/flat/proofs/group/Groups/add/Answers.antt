@@ -1,5 +1,5 @@
 use Rattle.std.proofs.Common.{◌≡◌, Bool, true, ◌&&◌, ltb, List, length, vec_items, vec_len, sym, refl, ap, ◌∙◌, arith}
-use Rattle.std.proofs.lemmas.Bool.{ltb-true}
+use Rattle.std.proofs.lemmas.Bool.{lt-ltb}
 use Rattle.rows.specs.declared.row.Row.{Row}
 use Rattle.flat.proofs.Grouping.{listed_read, listed_added}
 use Rattle.flat.proofs.group.Groups.add.Goals as goal
@@ -12,10 +12,9 @@ pub returns-in-Some : goal.returns-in-Some
 returns-in-Some c =
     let v = c.args.self.now.each in
     let i = c.args.owner in
-    let f = c.in-Some.ensures.finds in
-    let t : ltb i (vec_len v) ≡ true = sym {b = ltb i (vec_len v)} f.0 in
-    let l = ltb-true i (vec_len v) t in
-    let e = listed_read (vec_items v) (vec_len v) i c.in-Some.group.now v.ok.0 l f.1 in
+    let l = c.in-Some.ensures.variant.0 refl in
+    let t : ltb i (vec_len v) ≡ true = lt-ltb i (vec_len v) l in
+    let e = listed_read (vec_items v) (vec_len v) i c.in-Some.group.now v.ok.0 l c.in-Some.ensures.value in
     record {
       value = asked (ltb i (vec_len v)) _ _ c.push.result t e c.push.ensures.value;
       after = record { count = refl; each = listed_added (vec_items v) i c.in-Some.group.now c.push.new.self c.args.row c.push.result (omega (arith, v.ok.0)) e c.push.ensures.after };

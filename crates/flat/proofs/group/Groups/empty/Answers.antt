@@ -3,5 +3,5 @@ use Rattle.flat.proofs.group.Groups.empty.Goals as goal
 
 pub returns : goal.returns
 returns c =
-    let h = c.in-ok-each.ensures in
-    record { made = (h.len, blank_groups (record { each = c.in-ok-each.each }) c.args.count c.empty.result c.empty.ensures.value (h.items-if-clones-equal (λ y e. e))) }
+    let h = c.in_ok-each.ensures in
+    record { made = (h.len, blank_groups (record { each = c.in_ok-each.each }) c.args.count c.empty.result c.empty.ensures.value (h.items_if_clones_equal (λ y e. e))) }

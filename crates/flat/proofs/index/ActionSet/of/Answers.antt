@@ -16,8 +16,8 @@ turn : (es : List Edge) (i : ℕ) (d : Edge) (x : ℕ) (before after : Bool) →
 turn es i d x before after l e h = h ∙ ap (λ b. b || ((leb 1 (get_or es i d).action && leb (get_or es i d).action 15) && eqb (get_or es i d).action x)) e ∙ sym (uses_action_more es i d x l)
 
 pub loop-edge-preserved : goal.loop-edge-preserved
-loop-edge-preserved c = λ x. turn c.args.edges.now c.loop-edge.edge_index _ x _ _ (omega arith) (c.loop-edge.invariant x) (c.add.ensures.after x)
+loop-edge-preserved c = λ x. turn c.args.edges.now c.loop-edge.edge-index _ x _ _ (omega arith) (c.loop-edge.invariant x) (c.add.ensures.after x)
 
 pub returns : goal.returns
 returns c =
-    record { value = λ x. c.loop-edge.invariant x ∙ ap (λ (es : List Edge). uses_action es x) (take_all c.loop-edge.edge_index c.args.edges.now c.loop-edge-test.false) }
+    record { value = λ x. c.loop-edge.invariant x ∙ ap (λ (es : List Edge). uses_action es x) (take_all c.loop-edge.edge-index c.args.edges.now c.loop-edge-test.false) }
