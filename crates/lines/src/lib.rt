@@ -1,5 +1,6 @@
+//! Lines of values: what a line writes, and what is read of it.
 #![tactic(auto)]
 
-pub fn nothing() -> u8 {
-    0
-}
+mod values;
+
+pub use values::{MAX_VALUES, Values};
