@@ -13,7 +13,7 @@ use crate::flat::Flat;
 use crate::group::Groups;
 use crate::index::Index;
 use crate::room::Room;
-use models::{Edge, MAX_LOCATIONS, MAX_SLOTS, Model as TimedModel, Shape, Shut};
+use models::{Edge, MAX_LOCATIONS, MAX_SLOTS, Shape, Shut, TimedModel};
 use rows::Row;
 use std::alloc::{AllocError, Global};
 

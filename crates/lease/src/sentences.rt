@@ -1,8 +1,8 @@
-use models::Model;
+use models::TimedModel;
 use report::Formula;
 use rows::ClockSet;
 
-fn report_location<M: Model>(rt: &HostRuntime, model: &M, location: u8) -> anyhow::Result<()> {
+fn report_location<M: TimedModel>(rt: &HostRuntime, model: &M, location: u8) -> anyhow::Result<()> {
     let mark = if model.bad(location) { "bad" } else { "good" };
     println!(rt; "Location {location} is {mark}.")?;
     for k in 0..model.invariant_count(location) {
@@ -23,7 +23,7 @@ fn report_resets(rt: &HostRuntime, resets: &ClockSet) -> anyhow::Result<()> {
     Ok(())
 }
 
-fn report_slot<M: Model>(rt: &HostRuntime, model: &M, slot: u16) -> anyhow::Result<()> {
+fn report_slot<M: TimedModel>(rt: &HostRuntime, model: &M, slot: u16) -> anyhow::Result<()> {
     let Some(edge) = model.edge(slot) else {
         return Ok(());
     };
@@ -43,7 +43,7 @@ fn report_slot<M: Model>(rt: &HostRuntime, model: &M, slot: u16) -> anyhow::Resu
 }
 
 // The locations of any model with their invariants, and its edges with their guards.
-pub(crate) fn report_model<M: Model>(rt: &HostRuntime, model: &M) -> anyhow::Result<()> {
+pub(crate) fn report_model<M: TimedModel>(rt: &HostRuntime, model: &M) -> anyhow::Result<()> {
     let shape = model.shape();
     for location in 0..shape.locations {
         report_location(rt, model, location)?;

@@ -11,7 +11,7 @@ mod shut;
 
 pub use bad::has_bad_location;
 pub use edge::Edge;
-pub use model::Model;
+pub use model::TimedModel;
 pub use shape::{
     ACTIONS, LARGEST_ACTION, MAX_LOCATIONS, MAX_PARAMETERS, MAX_ROWS, MAX_SLOTS, Shape,
 };

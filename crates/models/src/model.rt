@@ -8,7 +8,7 @@ use rows::Row;
 
 /// What every model answers, from its table. Locations, slots and rows count from 0. Where one is asked for that is not in
 /// the table, the answer is 0, no, or nothing.
-pub trait Model {
+pub trait TimedModel {
     /// The table that the model means.
     ghost table: { Self → Table };
 

@@ -2,7 +2,7 @@ ghost use Rattle.models.specs.Shut.{shut_table};
 ghost use Rattle.std.proofs.Common.{rules};
 
 use crate::edge::Edge;
-use crate::model::Model as TimedModel;
+use crate::model::TimedModel;
 use crate::shape::Shape;
 use rows::Row;
 

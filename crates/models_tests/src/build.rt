@@ -1,5 +1,5 @@
 use flat::{AttachedRow, Description, Flat, Location, Room};
-use models::{Edge, Model};
+use models::{Edge, TimedModel};
 use rows::{ClockSet, Row};
 use std::alloc::{AllocError, Global};
 
@@ -74,7 +74,7 @@ pub(crate) fn lists(
 }
 
 // Whether the model answers as the shut model does.
-pub(crate) fn is_shut<M: Model>(model: &M) -> bool {
+pub(crate) fn is_shut<M: TimedModel>(model: &M) -> bool {
     let shape = model.shape();
     shape.clocks == 0
         && shape.parameters == 0

@@ -1,6 +1,6 @@
 use crate::build::*;
 use flat::Flat;
-use models::{Edge, Model};
+use models::{Edge, TimedModel};
 use rows::ClockSet;
 use std::alloc::{AllocError, Global};
 use std::test::Fail;

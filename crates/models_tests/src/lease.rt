@@ -1,6 +1,6 @@
 use crate::build::*;
 use flat::{Description, Flat, Location};
-use models::{Edge, Model, has_bad_location};
+use models::{Edge, TimedModel, has_bad_location};
 use rows::{ClockSet, Row};
 use std::alloc::{AllocError, Global};
 use std::test::Fail;

@@ -1,6 +1,6 @@
 use crate::build::*;
 use flat::{AttachedRow, Description, Flat};
-use models::Model;
+use models::TimedModel;
 use std::alloc::{AllocError, Global};
 use std::test::Fail;
 

@@ -1,6 +1,6 @@
 use crate::build::*;
 use flat::Flat;
-use models::{Model, Shape, Shut, has_bad_location};
+use models::{Shape, Shut, TimedModel, has_bad_location};
 use std::test::Fail;
 
 #[test]
