@@ -2,13 +2,13 @@ use models::Edge;
 use rows::Row;
 
 /// A location of a flat model. Its number is its place in the list, and so is that of an edge.
-#[derive(Clone, Copy)]
+#[derive(Clone, Copy, Debug, PartialEq, Eq, Hash)]
 pub struct Location {
     pub bad: bool,
 }
 
 /// An invariant row with the number of its location, or a guard row with the number of its edge: its owner.
-#[derive(Clone, Copy)]
+#[derive(Clone, Copy, Debug, PartialEq, Eq, Hash)]
 pub struct AttachedRow {
     pub owner: u16,
     pub row: Row,

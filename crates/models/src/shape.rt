@@ -18,7 +18,7 @@ pub const ACTIONS: usize = LARGEST_ACTION as usize + 1;
 
 /// The numbers of a model's table: how many clocks, parameters, locations and slots there are, the first location, and two
 /// bounds on the numbers of rows, the row figures.
-#[derive(Clone, Copy)]
+#[derive(Clone, Copy, Debug, PartialEq, Eq, Hash)]
 pub struct Shape {
     pub clocks: u8,
     pub parameters: u8,

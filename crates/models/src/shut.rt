@@ -8,7 +8,7 @@ use rows::Row;
 
 /// The shut model: one location, which is bad, and nothing else. Its bad location is reached at every setting, so it takes
 /// the place of a model that cannot be made.
-#[derive(Clone, Copy)]
+#[derive(Clone, Copy, Debug, PartialEq, Eq, Hash)]
 pub struct Shut;
 
 impl TimedModel for Shut {

@@ -5,7 +5,7 @@ ghost use Rattle.rows.specs.Moves.{Clocks, marks, has, WithinClocks, is_within_c
 pub const MAX_CLOCKS: usize = 6;
 
 /// A set of clocks: place c − 1 tells whether clock c is in it.
-#[derive(Clone, Copy)]
+#[derive(Clone, Copy, Debug, Default, PartialEq, Eq, Hash)]
 pub struct ClockSet {
     pub members: [bool; MAX_CLOCKS],
 }

@@ -4,7 +4,7 @@ ghost use Rattle.rows.specs.Lawful.{LawfulMarks, LawfulBound, Lawful, is_within_
 /// The bound xi − xj ≤ t0·k + t1·p1 + … + t6·p6, or < when strict: k is the scale, p1 to p6 are the parameters.
 ///
 /// Mark 0 is always 0, marks 1 to 6 are the clocks, mark 7 is the time waited.
-#[derive(Clone, Copy)]
+#[derive(Clone, Copy, Debug, Default, PartialEq, Eq, Hash)]
 pub struct Row {
     pub i: u8,
     pub j: u8,

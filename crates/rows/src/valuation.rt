@@ -5,7 +5,7 @@ ghost use Rattle.rows.specs.Valuations.{ValuesWithinLimit, InRange, Tells, are_w
 use crate::row::Row;
 
 /// A setting in numbers: the scale, and the value of parameter c at place c − 1. A parameter without a value counts as 0.
-#[derive(Clone, Copy)]
+#[derive(Clone, Copy, Debug, PartialEq, Eq, Hash)]
 pub struct Valuation<'a> {
     pub scale: u32,
     pub values: &'a [u32],
