@@ -1,15 +1,16 @@
 -- What the lists say: the rows of an owner, one entry at a time, the largest number of them, and the actions of the edges.
-use Rattle.std.specs.Prelude.{◌≡◌, ℕ, zero, suc, ◌+◌, ◌<◌, ◌≤◌, max, Bool, true, false, cond, ◌&&◌, ◌||◌, ◌⊎◌, List, [], ◌∷◌, ◌++◌, map, length, get_or, take, drop, Decides, filter, ◌==◌, nat_eq, nat_le, slice_index_or, refl}
+use Rattle.std.specs.Prelude.{◌≡◌, ℕ, zero, suc, ◌+◌, ◌<◌, ◌≤◌, max, Bool, true, false, cond, ◌&&◌, ◌||◌, ◌⊎◌, List, [], ◌∷◌, ◌++◌, map, length, get_or, take, drop, Any, Decides, filter, ◌==◌, nat_eq, nat_le, slice_index_or, refl}
 use Rattle.std.proofs.Common.{sym, ap, ◌∙◌, inl, inr, arith}
-use Rattle.std.specs.List.{HoldsAt}
+use Rattle.std.specs.List.{list_any}
+use Rattle.std.proofs.lemmas.List.Folds.{list_any_more, Any-from_list_any, list_any-from_Any}
 use Rattle.std.proofs.lemmas.List.Elements.{filter-append, filter_more}
-use Rattle.std.proofs.lemmas.List.{append-nil, map-append, length-map, length-append, length_push, take-append-drop, take_more}
-use Rattle.std.proofs.lemmas.Bool.{cases_lt, cond-true, eq-eqb}
-use Rattle.std.proofs.lemmas.Bool.Decides.{nat_tests, Decides-eqb, Decides-by_or}
+use Rattle.std.proofs.lemmas.List.{append-nil, map-append, length-map, length-append, length_push, take-append-drop}
+use Rattle.std.proofs.lemmas.Bool.{cases_lt, cond-true, eq-eqb, eqb-true}
+use Rattle.std.proofs.lemmas.Bool.Decides.{nat_tests}
 use Rattle.rows.specs.declared.row.Row.{Row}
 use Rattle.models.specs.declared.edge.Edge.{Edge}
 use Rattle.flat.specs.declared.description.AttachedRow.{AttachedRow}
-use Rattle.flat.specs.Lists.{rows_of, largest, carries, uses_action}
+use Rattle.flat.specs.Lists.{rows_of, largest, uses_action}
 use Rattle.flat.specs.Laws.{ListLaws}
 
 pub largest_bound : (f : ℕ → ℕ) (n b : ℕ) → ((q : ℕ) → q < n → f q ≤ b) → largest f n ≤ b
@@ -57,29 +58,21 @@ rows_of_next es i d l =
     let more = ap length (rows_of_more o es i d l ∙ cond-true (o == o) (rows_of o (take i es) ++ (get_or es i d).row ∷ []) (rows_of o (take i es)) (eq-eqb o o refl)) in
     omega (arith, more, length_push (rows_of o (take i es)) (get_or es i d).row, rows_of_part o es (i + 1))
 
-carries_push : (es : List Edge) (e : Edge) (x : ℕ) → carries (es ++ e ∷ []) x ≡ (carries es x || e.action == x)
-carries_push [] e x = grind arith
-carries_push (y ∷ ys) e x = let h = carries_push ys e x in grind arith
-
 -- one edge more
 pub uses_action_more : (es : List Edge) (i : ℕ) (d : Edge) (x : ℕ) → i < length es
     → uses_action (take (i + 1) es) x ≡ (uses_action (take i es) x || ((nat_le 1 (get_or es i d).action && nat_le (get_or es i d).action 15) && (get_or es i d).action == x))
-uses_action_more es i d x l =
-    let a = (get_or es i d).action in
-    let h : carries (take (i + 1) es) x ≡ (carries (take i es) x || a == x) = ap (λ ys. carries ys x) (take_more es i d l) ∙ carries_push (take i es) (slice_index_or es i d) x in
-    ap (λ b. (nat_le 1 x && nat_le x 15) && b) h ∙ spread (carries (take i es) x) a
+uses_action_more es i d x l = ap (λ b. (nat_le 1 x && nat_le x 15) && b) (list_any_more (λ e. e.action == x) es i d l) ∙ spread (list_any (λ e. e.action == x) (take i es)) (get_or es i d).action
   where
     spread : (b : Bool) (a : ℕ) → ((nat_le 1 x && nat_le x 15) && (b || a == x)) ≡ (((nat_le 1 x && nat_le x 15) && b) || ((nat_le 1 a && nat_le a 15) && a == x))
     spread b a = grind (arith, nat_tests)
 
-carries_decides : (es : List Edge) (x : ℕ) → Decides (carries es x) ((k : ℕ) × (k < length es) × HoldsAt (λ e. e.action ≡ x) es k)
-carries_decides es x = Decides-by_or (λ e. nat_eq e.action x) (λ e. e.action ≡ x) (λ ys. carries ys x) (λ e. Decides-eqb e.action x) refl (λ _ _. refl) es
-
-used_decides : (es : List Edge) (x : ℕ) → Decides (uses_action es x) ((1 ≤ x) × (x ≤ 15) × ((k : ℕ) × (k < length es) × HoldsAt (λ e. e.action ≡ x) es k))
+used_decides : (es : List Edge) (x : ℕ) → Decides (uses_action es x) ((1 ≤ x) × (x ≤ 15) × Any (λ e. e.action ≡ x) es)
 used_decides es x =
-    let d = carries_decides es x in (
-      λ h. let c : carries es x ≡ true = grind arith in (grind (arith, nat_tests), grind (arith, nat_tests), d.0 c),
-      λ h. let a = h.0 in let b = h.1 in let c = d.1 h.2 in grind (arith, nat_tests),
+    let found : Edge → Bool = λ e. e.action == x in (
+      λ h.
+          let c : list_any found es ≡ true = grind arith in
+          let a = Any-from_list_any found es c in (grind (arith, nat_tests), grind (arith, nat_tests), (a.0, a.1, a.2, a.3, eqb-true _ x a.4)),
+      λ (low, high, a). let c = list_any-from_Any found es (a.0, a.1, a.2, a.3, eq-eqb _ x a.4) in grind (arith, nat_tests),
     )
 
 largest_attained : (f : ℕ → ℕ) (n : ℕ) → (largest f n ≡ 0) ⊎ ((q : ℕ) × (q < n) × (f q ≡ largest f n))
