@@ -1,7 +1,8 @@
 -- The test of the lists decides whether they are well-formed, and a table of well-formed lists keeps the limits of models.
-use Rattle.std.specs.Prelude.{◌≡◌, ℕ, zero, suc, ◌<◌, ◌≤◌, Bool, true, false, ◌&&◌, List, [], ◌∷◌, map, length, Some, None, vec_items, Decides, filter, ◌==◌, nat_eq, nat_lt, refl}
+use Rattle.std.specs.Prelude.{◌≡◌, ℕ, zero, suc, ◌<◌, ◌≤◌, Bool, true, false, ◌&&◌, List, [], ◌∷◌, map, length, Some, None, vec_items, Decides, filter, All, ◌==◌, nat_eq, nat_lt, refl}
 use Rattle.std.proofs.Common.{ap, subst, ◌∙◌, inl, inr, arith}
 use Rattle.std.specs.List.{slice_get, AllByRecursion}
+use Rattle.std.proofs.lemmas.List.Elements.{All-from_recursion}
 use Rattle.std.proofs.ByRecursion.{All-map, All-weaker, all_kept_by, Decides-by_and}
 use Rattle.std.proofs.lemmas.Option.{slice_get_past}
 use Rattle.std.proofs.lemmas.Bool.{cases_lt, cases_Bool, ne_eqb, cond-false}
@@ -73,10 +74,10 @@ module _ (n m p : ℕ) where
   few_of : (q : ℕ) (es : List AttachedRow) → AllByRecursion (Attached n m p) es → length (rows_of q es) ≤ most_rows n es
   few_of q es h = elim (cases_lt q n) [ inl l ↦ largest_has (λ x. length (rows_of x es)) n q l | inr l ↦ omega (arith, ap length (rows_of_nobody q es l h)) ]
 
-  lawful_of : (q : ℕ) (es : List AttachedRow) → AllByRecursion (Attached n m p) es → AllByRecursion (Lawful m p) (rows_of q es)
+  lawful_of : (q : ℕ) (es : List AttachedRow) → AllByRecursion (Attached n m p) es → All (Lawful m p) (rows_of q es)
   lawful_of q es h =
-      All-map (Lawful m p) (λ e. e.row) (filter (λ e. nat_eq e.owner q) es)
-      (all_kept_by (λ e. nat_eq e.owner q) (λ e. Lawful m p e.row) es (All-weaker (Attached n m p) (λ e. Lawful m p e.row) (λ e o. o.lawful) es h))
+      All-from_recursion (Lawful m p) (rows_of q es) (All-map (Lawful m p) (λ e. e.row) (filter (λ e. nat_eq e.owner q) es)
+      (all_kept_by (λ e. nat_eq e.owner q) (λ e. Lawful m p e.row) es (All-weaker (Attached n m p) (λ e. Lawful m p e.row) (λ e o. o.lawful) es h)))
 
 unused : (es : List Edge) (x : ℕ) → 15 < x → uses_action es x ≡ false
 unused es x l = grind (arith, nat_tests)
