@@ -1,8 +1,8 @@
 -- The test of the lists decides whether they are well-formed, and a table of well-formed lists keeps the limits of models.
 use Rattle.std.specs.Prelude.{◌≡◌, ℕ, ◌<◌, ◌≤◌, Bool, true, false, ◌&&◌, List, [], ◌∷◌, map, length, Some, None, vec_items, All, Decides, filter, ◌==◌, nat_eq, nat_lt, refl}
 use Rattle.std.proofs.Common.{ap, subst, ◌∙◌, inl, inr, arith}
-use Rattle.std.specs.List.{slice_get, list_all, AllByRecursion}
-use Rattle.std.proofs.lemmas.List.Elements.{recursion_from_All, All-head, All-tail, All-map, All-weaker, All-filter}
+use Rattle.std.specs.List.{slice_get, list_all}
+use Rattle.std.proofs.lemmas.List.Elements.{All-head, All-tail, All-map, All-weaker, All-filter}
 use Rattle.std.proofs.lemmas.Option.{slice_get_past, slice_get_within, get_or_from_slice_get, gets}
 use Rattle.std.proofs.lemmas.Bool.{cases_lt, false_from_ne_true, ne_eqb, cond-false}
 use Rattle.std.proofs.lemmas.Bool.Decides.{nat_tests, Decides-and, Decides-by_and, Decides-like, Decides-ltb}
@@ -81,11 +81,10 @@ module _ (n m p : ℕ) where
   pub few_of : (q : ℕ) (es : List AttachedRow) → All (Attached n m p) es → length (rows_of q es) ≤ most_rows n es
   few_of q es h = elim (cases_lt q n) [ inl l ↦ largest_has (λ x. length (rows_of x es)) n q l | inr l ↦ omega (arith, ap length (rows_of_nobody q es l h)) ]
 
-  lawful_of : (q : ℕ) (es : List AttachedRow) → All (Attached n m p) es → AllByRecursion (Lawful m p) (rows_of q es)
+  lawful_of : (q : ℕ) (es : List AttachedRow) → All (Attached n m p) es → All (Lawful m p) (rows_of q es)
   lawful_of q es h =
-      recursion_from_All (Lawful m p) (rows_of q es)
-      (All-map (Lawful m p) (λ e. e.row) (filter (λ e. nat_eq e.owner q) es)
-      (All-filter (λ e. nat_eq e.owner q) (λ e. Lawful m p e.row) es (All-weaker (Attached n m p) (λ e. Lawful m p e.row) (λ e o. o.lawful) es h)))
+      All-map (Lawful m p) (λ e. e.row) (filter (λ e. nat_eq e.owner q) es)
+      (All-filter (λ e. nat_eq e.owner q) (λ e. Lawful m p e.row) es (All-weaker (Attached n m p) (λ e. Lawful m p e.row) (λ e o. o.lawful) es h))
 
 unused : (es : List Edge) (x : ℕ) → 15 < x → uses_action es x ≡ false
 unused es x l = grind (arith, nat_tests)

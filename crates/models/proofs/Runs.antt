@@ -1,6 +1,11 @@
 -- Where runs stay, and that a table without bad locations avoids them.
-use Rattle.std.proofs.Common.{◌≡◌, ℕ, ◌<◌, ◌≤◌, false, Decides, refl, inl, inr, arith}
+use Rattle.std.specs.Bool.{MatchBool}
+use Rattle.std.specs.List.{range_with_len, AllWithin, HoldsAt}
+use Rattle.std.proofs.lemmas.List.FromFn.{length-range_with_len, get_or-range_with_len}
+use Rattle.std.proofs.Common.{length, get_or, ◌∙◌, subst, arith, ◌≡◌, ℕ, ◌<◌, Bool, true, false, Decides, refl, inl, inr}
 use Rattle.std.proofs.lemmas.Bool.{both_ways, cases_lt}
+use Rattle.std.proofs.lemmas.Bool.Decides.{Decides-like}
+use Rattle.std.proofs.lemmas.List.Elements.{All-nil}
 use Rattle.rows.specs.Points.{Setting, Meets}
 use Rattle.rows.specs.Moves.{at}
 use Rattle.models.specs.Tables.{Table, Limits}
@@ -21,15 +26,33 @@ pub run_laws : RunLaws
 run_laws = record {
   inside = run_inside;
   invariant = run_invariant;
-  shut = λ s h. h (record { location = 0; clocks = λ _. 0 }) (begins tt) refl;
+  shut = λ s h. h (record { location = 0; clocks = λ _. 0 }) (begins (All-nil _)) refl;
 }
 
--- no location up to the last is bad, so none is
-pub none_bad : (M : Table) (n : ℕ) → Limits M → M.shape.locations ≤ n → ((k : ℕ) → k < n → M.bad k ≡ false) → (q : ℕ) → M.bad q ≡ false
-none_bad M n h e f q = elim (cases_lt q n) [ inl l ↦ f q l | inr g ↦ h.no_bad q (omega arith) ]
+place : (n k : ℕ) → k < n → get_or (range_with_len 0 n) k 0 ≡ k
+place n k l = get_or-range_with_len 0 n k 0 l ∙ omega arith
 
-pub decides_none : (M : Table) → ((q : ℕ) → M.bad q ≡ false) → Decides false (HasBad M)
-decides_none M f = (λ e. absurd (both_ways false refl e), λ b. absurd (both_ways (M.bad b.0) (f b.0) b.1))
+-- what a search through the numbers below n has found
+pub any_below : (f : ℕ → Bool) (n : ℕ) (r : Bool)
+    → MatchBool r ((k : ℕ) × (k < length (range_with_len 0 n)) × HoldsAt (λ q. f q ≡ true) (range_with_len 0 n) k) (AllWithin (λ q. f q ≡ false) (range_with_len 0 n) 0 (length (range_with_len 0 n)))
+    → Decides r ((q : ℕ) × (q < n) × (f q ≡ true))
+any_below f n true h =
+    let l = length-range_with_len 0 n in
+    let e : f h.0 ≡ true = subst (λ q. f q ≡ true) (place n h.0 (omega (arith, l, h.1))) (h.2 0) in
+    (λ _. (h.0, omega (arith, l, h.1), e), λ _. refl)
+any_below f n false h =
+    let l = length-range_with_len 0 n in (
+      λ e. absurd (both_ways false refl e),
+      λ x. absurd (both_ways (f x.0) (subst (λ q. f q ≡ false) (place n x.0 x.1) (h x.0 0 (omega arith) (omega (arith, l, x.1)))) x.2),
+    )
 
-pub avoids_none : (M : Table) → ((q : ℕ) → M.bad q ≡ false) → (s : Setting) → AvoidsBad M s
-avoids_none M f s x r e = both_ways (M.bad x.location) (f x.location) e
+-- what is bad is one of the table's locations
+pub bad_decides : (M : Table) (b : Bool) → Limits M → Decides b ((q : ℕ) × (q < M.shape.locations) × (M.bad q ≡ true)) → Decides b (HasBad M)
+bad_decides M b h d = Decides-like b (λ x. (x.0, x.2)) (λ x. (x.0, inside x.0 x.1, x.1)) d
+  where
+    inside : (q : ℕ) → M.bad q ≡ true → q < M.shape.locations
+    inside q e = elim (cases_lt q M.shape.locations) [ inl l ↦ l | inr g ↦ absurd (both_ways (M.bad q) (h.no_bad q g) e) ]
+
+-- where none is, no run reaches one
+pub avoids_unless : (M : Table) (b : Bool) → Decides b (HasBad M) → b ≡ false → (s : Setting) → AvoidsBad M s
+avoids_unless M b d e s x r k = both_ways b e (d.1 (x.location, k))

@@ -1,6 +1,5 @@
 -- The meaning of a model: a finite table, and the limits that it keeps.
-use Rattle.std.specs.Prelude.{◌≡◌, ℕ, ◌<◌, ◌≤◌, Bool, false, ◌&&◌, List, [], length, Some, None, Option, nat_le, nat_lt}
-use Rattle.std.specs.List.{AllByRecursion}
+use Rattle.std.specs.Prelude.{◌≡◌, ℕ, ◌<◌, ◌≤◌, Bool, false, ◌&&◌, List, [], length, Some, None, Option, All, nat_le, nat_lt}
 use Rattle.rows.specs.declared.row.Row.{Row}
 use Rattle.rows.specs.Lawful.{Lawful}
 use Rattle.rows.specs.Moves.{WithinClocks, is_within_clocks}
@@ -42,7 +41,7 @@ pub record EdgeLimits (h : Shape) (e : Edge) : Type 0 where
 -- at most so many rows, all lawful
 pub record RowsLimits (h : Shape) (most : ℕ) (rs : List Row) : Type 0 where
   pub count : length rs ≤ most
-  pub lawful : AllByRecursion (Lawful h.clocks h.parameters) rs
+  pub lawful : All (Lawful h.clocks h.parameters) rs
 
 pub record Limits (M : Table) : Type 0 where
   pub numbers : ShapeLimits M.shape

@@ -4,7 +4,6 @@
 mod bad;
 mod edge;
 mod laws;
-mod limits;
 mod model;
 mod shape;
 mod shut;

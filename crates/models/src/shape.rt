@@ -1,3 +1,9 @@
+ghost use Rattle.std.specs.Prelude.{◌≡◌, Decides};
+ghost use Rattle.models.specs.Tables.{ShapeLimits, EdgeLimits, is_within_limits, is_admitted};
+
+use crate::edge::Edge;
+use rows::MAX_CLOCKS;
+
 /// The most parameters that a model may have.
 pub const MAX_PARAMETERS: u8 = 6;
 
@@ -32,4 +38,32 @@ pub struct Shape {
     pub invariants: u8,
     /// The guard figure: no edge has more guard rows.
     pub guards: u8,
+}
+
+impl Shape {
+    /// Whether a model may have these numbers.
+    pub fn is_within_limits(&self) -> bool
+        ensures decides { Decides result (ShapeLimits self.now) }
+        ensures value { result ≡ is_within_limits self.now }
+    {
+        usize::from(self.clocks) <= MAX_CLOCKS
+            && self.parameters <= MAX_PARAMETERS
+            && (1..=MAX_LOCATIONS).contains(&self.locations)
+            && self.first < self.locations
+            && self.slots <= MAX_SLOTS
+            && usize::from(self.invariants) <= MAX_ROWS
+            && usize::from(self.guards) <= MAX_ROWS
+    }
+
+    /// Whether a model with these numbers may have the edge: it joins two locations, its action is within the limit, and
+    /// it resets none but clocks of the model.
+    pub fn admits(&self, edge: &Edge) -> bool
+        ensures decides { Decides result (EdgeLimits self.now edge.now) }
+        ensures value { result ≡ is_admitted self.now edge.now }
+    {
+        edge.source < self.locations
+            && edge.target < self.locations
+            && edge.action <= LARGEST_ACTION
+            && edge.resets.is_within(self.clocks)
+    }
 }

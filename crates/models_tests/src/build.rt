@@ -1,5 +1,5 @@
 use flat::{AttachedRow, Description, Flat, Location, Room};
-use models::{Edge, TimedModel};
+use models::{Edge, Shape, TimedModel};
 use rows::{ClockSet, Row};
 use std::alloc::{AllocError, Global};
 
@@ -7,13 +7,21 @@ pub(crate) const NO_CLOCKS: ClockSet = ClockSet {
     members: [false; 6],
 };
 
+// x1 - x0 <= t0 units + t1 p1 + ...
+pub(crate) fn bound(t: [i32; 7]) -> Row {
+    Row {
+        i: 1,
+        t,
+        ..Row::default()
+    }
+}
+
 // xi - xj <= t0 units
 pub(crate) fn row(i: u8, j: u8, t0: i32) -> Row {
     Row {
         i,
         j,
-        strict: false,
-        t: [t0, 0, 0, 0, 0, 0, 0],
+        ..bound([t0, 0, 0, 0, 0, 0, 0])
     }
 }
 
@@ -25,26 +33,8 @@ pub(crate) fn strictly(row: Row) -> Row {
     }
 }
 
-// x1 - x0 <= t0 units + t1 p1 + ...
-pub(crate) fn bound(t: [i32; 7]) -> Row {
-    Row {
-        i: 1,
-        j: 0,
-        strict: false,
-        t,
-    }
-}
-
 pub(crate) fn owned(owner: u16, row: Row) -> AttachedRow {
     AttachedRow { owner, row }
-}
-
-// Whether there is a row and it is this one.
-pub(crate) fn is_row(found: Option<Row>, row: Row) -> bool {
-    match found {
-        Some(r) => r.i == row.i && r.j == row.j && r.strict == row.strict && r.t == row.t,
-        None => false,
-    }
 }
 
 pub(crate) fn edge(source: u8, target: u8, action: u8, resets: ClockSet) -> Edge {
@@ -73,16 +63,20 @@ pub(crate) fn lists(
     })
 }
 
+// One location, and nothing else.
+const SHUT: Shape = Shape {
+    clocks: 0,
+    parameters: 0,
+    locations: 1,
+    first: 0,
+    slots: 0,
+    invariants: 0,
+    guards: 0,
+};
+
 // Whether the model answers as the shut model does.
 pub(crate) fn is_shut<M: TimedModel>(model: &M) -> bool {
-    let shape = model.shape();
-    shape.clocks == 0
-        && shape.parameters == 0
-        && shape.locations == 1
-        && shape.first == 0
-        && shape.slots == 0
-        && shape.invariants == 0
-        && shape.guards == 0
+    model.shape() == SHUT
         && model.bad(0)
         && !model.bad(1)
         && !model.uses(1)

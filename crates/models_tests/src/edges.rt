@@ -7,11 +7,11 @@ use std::test::Fail;
 
 // The clock of that place and no other.
 fn clock(place: usize) -> ClockSet {
-    let mut members = [false; 6];
-    if place < 6 {
-        members[place] = true;
+    let mut set = NO_CLOCKS;
+    if let Some(member) = set.members.get_mut(place) {
+        *member = true;
     }
-    ClockSet { members }
+    set
 }
 
 // Whether the edge, between two others, makes a model of 64 locations and so many clocks, or the shut model.
@@ -44,20 +44,15 @@ fn cases() -> [(u8, Edge, bool); 13] {
 
 #[test]
 fn limits(rt: HostRuntime) -> Result<(), Fail> {
-    for c in cases().iter() {
-        assert!(rt; is_right(rt.alloc(), c.0, c.1, c.2)?);
+    for (clocks, tried, model) in cases() {
+        assert!(rt; is_right(rt.alloc(), clocks, tried, model)?);
     }
     Ok(())
 }
 
 // Edges with actions 0, 15 and 3.
 fn uses_three_and_fifteen(model: &Flat) -> bool {
-    for x in 0..=255u8 {
-        if model.uses(x) != (x == 3 || x == 15) {
-            return false;
-        }
-    }
-    true
+    (0..=255u8).all(|x| model.uses(x) == (x == 3 || x == 15))
 }
 
 #[test]

@@ -1,6 +1,6 @@
 use crate::build::*;
 use flat::{Description, Flat, Location};
-use models::{Edge, TimedModel, has_bad_location};
+use models::{Shape, TimedModel, has_bad_location};
 use rows::{ClockSet, Row};
 use std::alloc::{AllocError, Global};
 use std::test::Fail;
@@ -39,69 +39,41 @@ fn lease(heap: Global) -> Result<Flat, AllocError> {
     flat(heap, lists)
 }
 
-fn is_edge(found: Option<Edge>, source: u8, target: u8, action: u8, resets: ClockSet) -> bool {
-    match found {
-        Some(e) => {
-            e.source == source
-                && e.target == target
-                && e.action == action
-                && e.resets.members == resets.members
-        }
-        None => false,
-    }
-}
-
-fn has_its_numbers(model: &Flat) -> bool {
-    let shape = model.shape();
-    shape.clocks == 1
-        && shape.parameters == 2
-        && shape.locations == 2
-        && shape.first == 0
-        && shape.slots == 2
-        && shape.invariants == 1
-        && shape.guards == 1
-}
+const NUMBERS: Shape = Shape {
+    clocks: 1,
+    parameters: 2,
+    locations: 2,
+    first: 0,
+    slots: 2,
+    invariants: 1,
+    guards: 1,
+};
 
 // Location 1 is bad and no other; action 1 is used and no other, since action 0 is never used.
 fn has_its_marks(model: &Flat) -> bool {
-    for x in 0..=255u8 {
-        if model.bad(x) != (x == 1) || model.uses(x) != (x == 1) {
-            return false;
-        }
-    }
-    has_bad_location(model)
+    (0..=255u8).all(|x| model.bad(x) == (x == 1) && model.uses(x) == (x == 1))
+        && has_bad_location(model)
 }
 
 fn has_its_invariants(model: &Flat) -> bool {
-    for q in 1..=255u8 {
-        if model.invariant_count(q) != 0 || model.invariant_row(q, 0).is_some() {
-            return false;
-        }
-    }
-    model.invariant_count(0) == 1
-        && is_row(model.invariant_row(0, 0), RENEWED)
+    (1..=255u8).all(|q| model.invariant_count(q) == 0 && model.invariant_row(q, 0).is_none())
+        && model.invariant_count(0) == 1
+        && model.invariant_row(0, 0) == Some(RENEWED)
         && model.invariant_row(0, 1).is_none()
 }
 
 fn has_its_edges(model: &Flat) -> bool {
-    for k in 2..=65_535u16 {
-        if model.edge(k).is_some() {
-            return false;
-        }
-    }
-    is_edge(model.edge(0), 0, 0, 1, CLOCK_1) && is_edge(model.edge(1), 0, 1, 0, NO_CLOCKS)
+    (2..=65_535u16).all(|k| model.edge(k).is_none())
+        && model.edge(0) == Some(edge(0, 0, 1, CLOCK_1))
+        && model.edge(1) == Some(edge(0, 1, 0, NO_CLOCKS))
 }
 
 fn has_its_guards(model: &Flat) -> bool {
-    for k in 2..=65_535u16 {
-        if model.guard_count(k) != 0 || model.guard_row(k, 0).is_some() {
-            return false;
-        }
-    }
-    model.guard_count(0) == 0
+    (2..=65_535u16).all(|k| model.guard_count(k) == 0 && model.guard_row(k, 0).is_none())
+        && model.guard_count(0) == 0
         && model.guard_row(0, 0).is_none()
         && model.guard_count(1) == 1
-        && is_row(model.guard_row(1, 0), SILENT)
+        && model.guard_row(1, 0) == Some(SILENT)
         && model.guard_row(1, 1).is_none()
 }
 
@@ -113,14 +85,14 @@ fn are_its_lists(lists: Description) -> bool {
         && lists.invariants.len() == 1
         && lists.guards.len() == 1
         && lists.edges.len() == 2
-        && is_edge(lists.edges.get(1).copied(), 0, 1, 0, NO_CLOCKS)
+        && lists.edges.get(1).copied() == Some(edge(0, 1, 0, NO_CLOCKS))
 }
 
 #[test]
 fn every_question(rt: HostRuntime) -> Result<(), Fail> {
     let model = lease(rt.alloc())?;
     assert!(rt;
-        model.is_well_formed() && has_its_numbers(&model),
+        model.is_well_formed() && model.shape() == NUMBERS,
         "numbers"
     );
     assert!(rt; has_its_marks(&model), "bad locations and used actions");

@@ -1,6 +1,7 @@
 use crate::build::*;
 use flat::{AttachedRow, Description, Flat};
 use models::TimedModel;
+use rows::Row;
 use std::alloc::{AllocError, Global};
 use std::test::Fail;
 
@@ -35,24 +36,32 @@ fn cases() -> [(AttachedRow, bool); 15] {
     ]
 }
 
-// Whether the row, after another, makes a model or the shut model as an invariant.
-fn is_right_invariant(heap: Global, tried: AttachedRow, model: bool) -> Result<bool, AllocError> {
+// Whether the row, after another one and put into one of the lists, makes a model or the shut model.
+fn is_right<F: FnOnce(&mut Description, Vec<AttachedRow>)>(
+    heap: Global,
+    put: F,
+    tried: AttachedRow,
+    model: bool,
+) -> Result<bool, AllocError>
+    requires { F.IsAlwaysCallable put }
+{
     let mut given = three(heap)?;
-    given.invariants = vec![in heap; owned(0, row(1, 0, 1)), tried]?;
-    gives(heap, given, model)
-}
-
-fn is_right_guard(heap: Global, tried: AttachedRow, model: bool) -> Result<bool, AllocError> {
-    let mut given = three(heap)?;
-    given.guards = vec![in heap; owned(0, row(1, 0, 1)), tried]?;
+    put(&mut given, vec![in heap; owned(0, row(1, 0, 1)), tried]?);
     gives(heap, given, model)
 }
 
 #[test]
 fn limits(rt: HostRuntime) -> Result<(), Fail> {
-    for c in cases().iter() {
-        assert!(rt; is_right_invariant(rt.alloc(), c.0, c.1)?);
-        assert!(rt; is_right_guard(rt.alloc(), c.0, c.1)?);
+    for (tried, model) in cases() {
+        assert!(rt;
+            is_right(
+                rt.alloc(),
+                |lists, rows| lists.invariants = rows,
+                tried,
+                model
+            )?
+        );
+        assert!(rt; is_right(rt.alloc(), |lists, rows| lists.guards = rows, tried, model)?);
     }
     Ok(())
 }
@@ -70,9 +79,9 @@ fn has_eight_of_one(model: &Flat) -> bool {
         && model.shape().guards == 8
         && model.invariant_count(0) == 0
         && model.invariant_count(1) == 8
-        && is_row(model.invariant_row(1, 7), row(1, 0, 7))
+        && model.invariant_row(1, 7) == Some(row(1, 0, 7))
         && model.guard_count(1) == 8
-        && is_row(model.guard_row(1, 7), row(1, 0, 7))
+        && model.guard_row(1, 7) == Some(row(1, 0, 7))
 }
 
 #[test]
@@ -93,8 +102,8 @@ fn with_last(heap: Global, location: u16, slot: u16) -> Result<Flat, AllocError>
 }
 
 fn has_its_last(model: &Flat) -> bool {
-    is_row(model.invariant_row(63, 0), row(1, 0, 7))
-        && is_row(model.guard_row(511, 0), row(1, 0, 7))
+    model.invariant_row(63, 0) == Some(row(1, 0, 7))
+        && model.guard_row(511, 0) == Some(row(1, 0, 7))
         && model.edge(511).is_some()
         && model.edge(512).is_none()
 }
@@ -122,27 +131,28 @@ fn mixed(heap: Global) -> Result<Description, AllocError> {
     Ok(given)
 }
 
-fn keeps_order_of_invariants(model: &Flat) -> bool {
-    model.shape().invariants == 2
-        && is_row(model.invariant_row(0, 0), row(1, 0, 2))
-        && is_row(model.invariant_row(0, 1), strictly(row(1, 0, 4)))
-        && model.invariant_count(1) == 0
-        && is_row(model.invariant_row(2, 0), row(1, 0, 1))
-        && is_row(model.invariant_row(2, 1), row(1, 0, 3))
+// Whether the rows by owner and place are those of the owners, in list order.
+fn keeps_order<F: Fn(u8, u8) -> Option<Row>>(row_of: F) -> bool
+    requires { F.IsAlwaysCallable row_of }
+{
+    row_of(0, 0) == Some(row(1, 0, 2))
+        && row_of(0, 1) == Some(strictly(row(1, 0, 4)))
+        && row_of(2, 0) == Some(row(1, 0, 1))
+        && row_of(2, 1) == Some(row(1, 0, 3))
 }
 
-fn keeps_order_of_guards(model: &Flat) -> bool {
-    model.shape().guards == 2
-        && is_row(model.guard_row(0, 0), row(1, 0, 2))
-        && is_row(model.guard_row(0, 1), strictly(row(1, 0, 4)))
+fn has_two_of_two(model: &Flat) -> bool {
+    model.shape().invariants == 2
+        && model.invariant_count(1) == 0
+        && model.shape().guards == 2
         && model.guard_count(1) == 0
-        && is_row(model.guard_row(2, 0), row(1, 0, 1))
-        && is_row(model.guard_row(2, 1), row(1, 0, 3))
 }
 
 #[test]
 fn list_order_is_kept(rt: HostRuntime) -> Result<(), Fail> {
     let model = flat(rt.alloc(), mixed(rt.alloc())?)?;
-    assert!(rt; keeps_order_of_invariants(&model) && keeps_order_of_guards(&model));
+    assert!(rt; has_two_of_two(&model));
+    assert!(rt; keeps_order(|q, k| model.invariant_row(q, k)));
+    assert!(rt; keeps_order(|q, k| model.guard_row(u16::from(q), k)));
     Ok(())
 }

@@ -79,7 +79,7 @@ fn shapes_past_a_limit() -> [Shape; 8] {
 fn limits_of_numbers(rt: HostRuntime) {
     assert!(rt; LARGEST.is_within_limits());
     assert!(rt; Shut.shape().is_within_limits());
-    for shape in shapes_past_a_limit().iter() {
+    for shape in shapes_past_a_limit() {
         assert!(rt; !shape.is_within_limits());
     }
 }

@@ -1,16 +1,11 @@
 -- Sets of clocks, and what the replaced rows say.
-use Rattle.std.proofs.Common.{◌≡◌, ℕ, zero, suc, ◌+◌, ◌<◌, ◌≤◌, Bool, true, false, cond, eqb, ◌↔◌, length, refl, ap, arith}
-use Rattle.std.proofs.lemmas.List.{get_or_past}
+use Rattle.std.proofs.Common.{◌≡◌, ℕ, zero, suc, ◌+◌, ◌≤◌, Bool, true, false, cond, eqb, ◌↔◌, refl, ap, arith}
 use Rattle.std.proofs.lemmas.Bool.{ne_eqb, eqb-true, cond-false, cond_both}
 use Rattle.rows.specs.declared.row.Row.{Row}
 use Rattle.rows.specs.declared.clock_set.ClockSet.{ClockSet}
 use Rattle.rows.specs.Points.{Setting, Holds}
 use Rattle.rows.specs.Moves.{Clocks, has, marks, at, after_reset, later, with_wait, waited, mark_before_reset, before_reset, mark_after_wait, after_wait, SaysBeforeReset, SaysAfterWait}
 use Rattle.rows.proofs.Points.{with_marks, holds_like}
-
-pub has_past : (set : ClockSet) (c : ℕ) → length set.members < c → has set c ≡ false
-has_past set zero h = refl
-has_past set (suc c) h = get_or_past set.members c false (omega arith)
 
 -- the mark read before the reset is the mark after it
 mark_reset : (set : ClockSet) (w : Clocks) (c : ℕ) → marks w (mark_before_reset set c) ≡ marks (after_reset set w) c

@@ -1,9 +1,8 @@
 -- The tests of a setting in numbers decide what they are to tell.
 use Rattle.std.proofs.Common.{◌≡◌, ℕ, zero, suc, ◌+◌, ◌<◌, ◌≤◌, Bool, true, false, leb, List, [], ◌∷◌, length, get_or, drop, ℤ, pos, ◌+ℤ◌, ◌-ℤ◌, ◌*ℤ◌, Decides, sym, refl, ap, ◌∙◌, arith}
-use Rattle.std.proofs.lemmas.List.{at_drop_more, at_drop_all, get_or_past}
+use Rattle.std.proofs.lemmas.List.{at_drop_more}
 use Rattle.std.proofs.lemmas.Int.{ints}
-use Rattle.std.proofs.lemmas.Bool.{and_parts, and_from}
-use Rattle.std.proofs.lemmas.Bool.Decides.{nat_tests, Decides-at}
+use Rattle.std.proofs.lemmas.Bool.Decides.{nat_tests, Decides-at, Decides-by_and}
 use Rattle.rows.specs.declared.row.Row.{Row}
 use Rattle.rows.specs.Points.{weight, weighted_sum, bound, Ordered}
 use Rattle.rows.specs.Moves.{marks}
@@ -13,35 +12,20 @@ pub weighted_sum_more : (f : ℕ → ℕ) (ts : List ℤ) (c : ℕ) → c < leng
 weighted_sum_more f ts c h =
     at_drop_more (weighted_sum f c) ts c (pos 0) h ∙ ap (λ d. get_or ts c (pos 0) *ℤ pos (f c) +ℤ weighted_sum f d (drop (c + 1) ts)) (omega arith)
 
-pub weighted_sum_all : (f : ℕ → ℕ) (ts : List ℤ) (c : ℕ) → length ts ≤ c → weighted_sum f c (drop c ts) ≡ pos 0
-weighted_sum_all f ts c h = at_drop_all (weighted_sum f c) ts c h
-
 pub weighted_sum_like : (f g : ℕ → ℕ) → ((c : ℕ) → f c ≡ g c) → (c : ℕ) (ts : List ℤ) → weighted_sum f c ts ≡ weighted_sum g c ts
 weighted_sum_like f g e c [] = refl
 weighted_sum_like f g e c (t ∷ ts) =
     ap (λ n. t *ℤ pos n +ℤ weighted_sum f (suc c) ts) (e c) ∙ ap (λ z. t *ℤ pos (g c) +ℤ z) (weighted_sum_like f g e (suc c) ts)
 
-pub weight_of_past : (scale : ℕ) (values : List ℕ) (c : ℕ) → length values < c → weight_of scale values c ≡ 0
-weight_of_past scale values zero h = absurd (omega arith)
-weight_of_past scale values (suc c) h = get_or_past values c 0 (omega arith)
-
 ordered_decides : (b : Bool) (x y : ℤ) → Decides (is_ordered b x y) (Ordered b x y)
 ordered_decides true x y = (λ h. grind (arith, ints), λ h. grind (arith, ints))
 ordered_decides false x y = (λ h. grind (arith, ints), λ h. grind (arith, ints))
 
-values_mean : (ns : List ℕ) → are_within_limit ns ≡ true → ValuesWithinLimit ns
-values_mean [] h c = omega arith
-values_mean (n ∷ ns) h zero = grind (arith, nat_tests)
-values_mean (n ∷ ns) h (suc c) = values_mean ns (and_parts (leb n 1000000000) (are_within_limit ns) h).1 c
-
-values_test : (ns : List ℕ) → ValuesWithinLimit ns → are_within_limit ns ≡ true
-values_test [] h = refl
-values_test (n ∷ ns) h =
-    let k : n ≤ 1000000000 = h 0 in
-    and_from (leb n 1000000000) (are_within_limit ns) (grind (arith, nat_tests)) (values_test ns (λ c. h (suc c)))
+value_decides : (v : ℕ) → Decides (leb v 1000000000) (v ≤ 1000000000)
+value_decides v = (λ h. grind (arith, nat_tests), λ h. grind (arith, nat_tests))
 
 pub values_decide : (ns : List ℕ) → Decides (are_within_limit ns) (ValuesWithinLimit ns)
-values_decide ns = (values_mean ns, values_test ns)
+values_decide ns = Decides-by_and (λ v. leb v 1000000000) (λ v. v ≤ 1000000000) are_within_limit value_decides refl (λ _ _. refl) ns
 
 zero_mark : (c : ℕ) → marks (λ _. 0) c ≡ 0
 zero_mark zero = refl
@@ -70,11 +54,11 @@ module _ (k : ℕ) (vs : List ℕ) where
   in_range_decides n = (
     λ h.
         let s : are_within_limit vs ≡ true = grind arith in
-        record { count = grind (arith, nat_tests); scale_low = grind (arith, nat_tests); scale_high = grind (arith, nat_tests); within = values_mean vs s },
+        record { count = grind (arith, nat_tests); scale_low = grind (arith, nat_tests); scale_high = grind (arith, nat_tests); within = (values_decide vs).0 s },
     λ h.
         let a = h.count in
         let b = h.scale_low in
         let d = h.scale_high in
-        let s = values_test vs h.within in
+        let s = (values_decide vs).1 h.within in
         grind (arith, nat_tests),
   )

@@ -1,5 +1,6 @@
 -- Which rows are lawful for m clocks and n parameters.
-use Rattle.std.specs.Prelude.{◌≡◌, ℕ, suc, ◌<◌, ◌≤◌, Bool, true, false, not, ◌&&◌, ◌||◌, List, [], ◌∷◌, ℤ, pos, negsuc, neg_ℤ, ◌≤ℤ◌, ◌==◌, int_le, nat_le, slice_index_or}
+use Rattle.std.specs.Prelude.{◌≡◌, ℕ, ◌+◌, ◌<◌, ◌≤◌, Bool, false, not, ◌&&◌, ◌||◌, drop, ℤ, pos, negsuc, neg_ℤ, ◌≤ℤ◌, ◌==◌, int_le, nat_le, slice_index_or}
+use Rattle.std.specs.List.{list_all}
 use Rattle.rows.specs.declared.row.Row.{Row}
 
 -- coefficient number c: 0 is the scale's, the others are the parameters'
@@ -36,20 +37,11 @@ abbrev pub is_zero : ℤ → Bool
 is_zero (pos n) = n == 0
 is_zero (negsuc n) = false
 
--- z is lawful as coefficient number c where there are n parameters
-abbrev pub is_lawful_coefficient : ℕ → ℕ → ℤ → Bool
-is_lawful_coefficient n c z = is_within_limit z && (nat_le c n || is_zero z)
-
--- so is each of these, from number c on
-abbrev pub are_lawful_coefficients : ℕ → ℕ → List ℤ → Bool
-are_lawful_coefficients n c [] = true
-are_lawful_coefficients n c (z ∷ zs) = is_lawful_coefficient n c z && are_lawful_coefficients n (suc c) zs
-
 abbrev pub has_lawful_marks : ℕ → Row → Bool
 has_lawful_marks m r = nat_le r.i m && (nat_le r.j m && (not (r.i == r.j) || r.i == 0))
 
 abbrev pub has_lawful_bound : ℕ → Row → Bool
-has_lawful_bound n r = are_lawful_coefficients n 0 r.t
+has_lawful_bound n r = list_all is_within_limit r.t && list_all is_zero (drop (1 + n) r.t)
 
 abbrev pub is_lawful : ℕ → ℕ → Row → Bool
 is_lawful m n r = has_lawful_marks m r && has_lawful_bound n r

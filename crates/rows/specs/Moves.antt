@@ -1,5 +1,6 @@
 -- Sets of clocks, what a reset and a wait do to the clocks, and the rows that say it beforehand or afterwards.
-use Rattle.std.specs.Prelude.{◌≡◌, ℕ, zero, suc, ◌+◌, ◌≤◌, Bool, true, false, cond, not, ◌&&◌, ◌||◌, ◌↔◌, List, [], ◌∷◌, ◌==◌, nat_lt, slice_index_or, refl}
+use Rattle.std.specs.Prelude.{◌≡◌, ℕ, zero, suc, ◌+◌, ◌≤◌, Bool, true, false, cond, not, ◌↔◌, drop, ◌==◌, slice_index_or, refl}
+use Rattle.std.specs.List.{list_all}
 use Rattle.rows.specs.declared.row.Row.{Row}
 use Rattle.rows.specs.declared.clock_set.ClockSet.{ClockSet}
 use Rattle.rows.specs.Points.{Setting, Point, Holds}
@@ -73,10 +74,5 @@ SaysAfterWait r q = r.i ≤ 6 → r.j ≤ 6 → (s : Setting) (w : Clocks) (d : 
 
 -- the same as tests, for definitions that have to decide
 
--- the members from place c on, where clock c + 1 stands, are within the first m clocks
-abbrev pub are_within_clocks : ℕ → ℕ → List Bool → Bool
-are_within_clocks m c [] = true
-are_within_clocks m c (b ∷ bs) = (not b || nat_lt c m) && are_within_clocks m (suc c) bs
-
 abbrev pub is_within_clocks : ℕ → ClockSet → Bool
-is_within_clocks m set = are_within_clocks m 0 set.members
+is_within_clocks m set = list_all not (drop m set.members)

@@ -1,6 +1,5 @@
 -- Settings, points, where a row holds, and what rows force.
-use Rattle.std.specs.Prelude.{◌≡◌, ℕ, zero, suc, ◌<◌, Bool, true, false, List, [], ◌∷◌, ℤ, pos, ◌+ℤ◌, ◌-ℤ◌, ◌*ℤ◌, ◌≤ℤ◌, ◌<ℤ◌}
-use Rattle.std.specs.List.{AllByRecursion}
+use Rattle.std.specs.Prelude.{◌≡◌, ℕ, zero, suc, ◌<◌, Bool, true, false, List, [], ◌∷◌, ℤ, pos, ◌+ℤ◌, ◌-ℤ◌, ◌*ℤ◌, ◌≤ℤ◌, ◌<ℤ◌, All}
 use Rattle.rows.specs.declared.row.Row.{Row}
 
 -- a scale of at least 1, which makes one unit of time, and a value for each parameter, counted from 1
@@ -44,7 +43,7 @@ Holds p r = Ordered r.strict (difference p r) (bound p.setting r)
 
 -- every one of the rows holds at the point
 abbrev pub Meets : Point → List Row → Type 0
-Meets p rs = AllByRecursion (Holds p) rs
+Meets p rs = All (Holds p) rs
 
 -- wherever all the rows hold, the goal holds
 abbrev pub Forces : List Row → Row → Type 0

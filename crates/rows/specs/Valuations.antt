@@ -1,12 +1,13 @@
 -- A setting given in numbers, the limits of these, and where it meets a row.
-use Rattle.std.specs.Prelude.{◌≡◌, ℕ, zero, suc, ◌<◌, ◌≤◌, Bool, true, false, ◌&&◌, List, [], ◌∷◌, length, ℤ, pos, Decides, ◌==◌, int_le, int_lt, nat_le, slice_index}
+use Rattle.std.specs.Prelude.{◌≡◌, ℕ, zero, suc, ◌<◌, ◌≤◌, Bool, true, false, ◌&&◌, List, length, ℤ, pos, Decides, All, ◌==◌, int_le, int_lt, nat_le, slice_index}
+use Rattle.std.specs.List.{list_all}
 use Rattle.rows.specs.declared.row.Row.{Row}
 use Rattle.rows.specs.Points.{Setting, weighted_sum, Holds}
 use Rattle.rows.specs.Moves.{Clocks, at, at_zero}
 
 -- no value is above its limit
 abbrev pub ValuesWithinLimit : List ℕ → Type 0
-ValuesWithinLimit values = (c : ℕ) → slice_index values c ≤ 1000000000
+ValuesWithinLimit values = All (λ v. v ≤ 1000000000) values
 
 -- n values, and the limits of the scale and of each value
 pub record InRange (n scale : ℕ) (values : List ℕ) : Type 0 where
@@ -32,8 +33,7 @@ pub record Tells (scale : ℕ) (values : List ℕ) (r : Row) (b : Bool) : Type 0
 -- the same as tests, for definitions that have to decide
 
 abbrev pub are_within_limit : List ℕ → Bool
-are_within_limit [] = true
-are_within_limit (n ∷ ns) = nat_le n 1000000000 && are_within_limit ns
+are_within_limit values = list_all (λ v. nat_le v 1000000000) values
 
 abbrev pub is_in_range : ℕ → ℕ → List ℕ → Bool
 is_in_range n scale values = length values == n && (nat_le 1 scale && (nat_le scale 1000000 && are_within_limit values))

@@ -1,4 +1,5 @@
-ghost use Rattle.std.specs.Prelude.{◌≡◌, not, ◌||◌, Decides, nat_lt};
+ghost use Rattle.std.specs.Prelude.{◌≡◌, not, drop, Decides};
+ghost use Rattle.std.specs.List.{list_all};
 ghost use Rattle.rows.specs.Moves.{Clocks, marks, has, WithinClocks, is_within_clocks, after_reset, mark_before_reset};
 
 /// The most clocks that a model may have.
@@ -10,43 +11,32 @@ pub struct ClockSet {
     pub members: [bool; MAX_CLOCKS],
 }
 
-// Whether place c, where clock c + 1 stands, is empty or is that of one of the first `clocks` clocks.
-fn is_place_within(clocks: u8, c: usize, member: bool) -> bool
-    ensures { result ≡ (not member || nat_lt c clocks) }
-{
-    !member || c < clocks as usize
-}
-
 impl ClockSet {
     /// Whether the clock of that number is in the set; 0 and what is above 6 is no clock.
     pub fn has(&self, clock: u8) -> bool
         ensures value { result ≡ has self.now clock }
     {
-        let c = clock as usize;
-        if c == 0 || c > MAX_CLOCKS {
+        let c = usize::from(clock);
+        if !(1..=MAX_CLOCKS).contains(&c) {
             return false;
         }
         self.members[c - 1]
     }
 
+    // Whether no clock that stands at the place or behind it is in the set.
+    fn has_none_from(&self, place: usize) -> bool
+        ensures value { result ≡ list_all not (drop place self.now.members) }
+    {
+        self.members.iter().skip(place).all(|member| !member)
+    }
+
     /// Whether every clock of the set is one of the first `clocks` clocks.
+    #[tactic(auto, using(crate::proofs::Clocks::within_clocks_decides))]
     pub fn is_within(&self, clocks: u8) -> bool
         ensures decides { Decides result (WithinClocks clocks self.now) }
         ensures value { result ≡ is_within_clocks clocks self.now }
     {
-        self.has_only(clocks)
-    }
-
-    fn has_only(&self, clocks: u8) -> bool
-        ensures decides { Decides result (WithinClocks clocks self.now) }
-        ensures value { result ≡ is_within_clocks clocks self.now }
-    {
-        for (c, member) in self.members.iter().enumerate() {
-            if !is_place_within(clocks, c, *member) {
-                return false;
-            }
-        }
-        true
+        self.has_none_from(usize::from(clocks))
     }
 
     // The mark with the clocks of the set replaced by mark 0.

@@ -3,11 +3,9 @@
 
 mod clock_set;
 mod laws;
-mod replace;
 mod row;
 mod valuation;
 
 pub use clock_set::{ClockSet, MAX_CLOCKS};
-pub use replace::WAITED;
-pub use row::{LARGEST_COEFFICIENT, Row};
+pub use row::{LARGEST_COEFFICIENT, Row, WAITED};
 pub use valuation::{LARGEST_SCALE, LARGEST_VALUE, Valuation};

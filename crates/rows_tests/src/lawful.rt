@@ -1,58 +1,52 @@
-use rows::Row;
-
-fn row(i: u8, j: u8, t: [i32; 7]) -> Row {
-    Row {
-        i,
-        j,
-        strict: false,
-        t,
-    }
-}
-
-const ZEROS: [i32; 7] = [0; 7];
+use crate::build::{on, term};
 
 #[test]
 fn marks_reach_the_number_of_clocks(rt: HostRuntime) {
-    assert!(rt; row(2, 0, ZEROS).is_lawful(2, 0));
-    assert!(rt; !row(3, 0, ZEROS).is_lawful(2, 0));
-    assert!(rt; row(0, 2, ZEROS).is_lawful(2, 0));
-    assert!(rt; !row(0, 3, ZEROS).is_lawful(2, 0));
+    assert!(rt; on(2, 0).is_lawful(2, 0));
+    assert!(rt; !on(3, 0).is_lawful(2, 0));
+    assert!(rt; on(0, 2).is_lawful(2, 0));
+    assert!(rt; !on(0, 3).is_lawful(2, 0));
 }
 
 #[test]
 fn the_time_waited_is_no_clock(rt: HostRuntime) {
-    assert!(rt; row(6, 0, ZEROS).is_lawful(6, 6));
-    assert!(rt; !row(7, 0, ZEROS).is_lawful(6, 6));
-    assert!(rt; !row(0, 7, ZEROS).is_lawful(6, 6));
+    assert!(rt; on(6, 0).is_lawful(6, 6));
+    assert!(rt; !on(7, 0).is_lawful(6, 6));
+    assert!(rt; !on(0, 7).is_lawful(6, 6));
 }
 
 #[test]
 fn marks_differ_or_are_both_0(rt: HostRuntime) {
-    assert!(rt; row(0, 0, ZEROS).is_lawful(0, 0));
-    assert!(rt; row(1, 2, ZEROS).is_lawful(2, 0));
-    assert!(rt; !row(1, 1, ZEROS).is_lawful(2, 0));
+    assert!(rt; on(0, 0).is_lawful(0, 0));
+    assert!(rt; on(1, 2).is_lawful(2, 0));
+    assert!(rt; !on(1, 1).is_lawful(2, 0));
+}
+
+// Whether a row with these coefficients is lawful where there are so many parameters.
+fn lawful(t: [i32; 7], parameters: u8) -> bool {
+    term(false, t).is_lawful(0, parameters)
 }
 
 #[test]
 fn a_coefficient_is_at_its_limit(rt: HostRuntime) {
-    assert!(rt; row(0, 0, [1_000_000, 0, 0, 0, 0, 0, 0]).is_lawful(0, 0));
-    assert!(rt; row(0, 0, [-1_000_000, 0, 0, 0, 0, 0, 0]).is_lawful(0, 0));
-    assert!(rt; row(0, 0, [0, 0, 0, 0, 0, 0, 1_000_000]).is_lawful(0, 6));
-    assert!(rt; row(0, 0, [0, 0, 0, 0, 0, 0, -1_000_000]).is_lawful(0, 6));
+    assert!(rt; lawful([1_000_000, 0, 0, 0, 0, 0, 0], 0));
+    assert!(rt; lawful([-1_000_000, 0, 0, 0, 0, 0, 0], 0));
+    assert!(rt; lawful([0, 0, 0, 0, 0, 0, 1_000_000], 6));
+    assert!(rt; lawful([0, 0, 0, 0, 0, 0, -1_000_000], 6));
 }
 
 #[test]
 fn a_coefficient_is_past_its_limit(rt: HostRuntime) {
-    assert!(rt; !row(0, 0, [1_000_001, 0, 0, 0, 0, 0, 0]).is_lawful(0, 0));
-    assert!(rt; !row(0, 0, [-1_000_001, 0, 0, 0, 0, 0, 0]).is_lawful(0, 0));
-    assert!(rt; !row(0, 0, [0, 0, 0, 0, 0, 0, 1_000_001]).is_lawful(0, 6));
-    assert!(rt; !row(0, 0, [0, 0, 0, 0, 0, 0, -2_147_483_648]).is_lawful(0, 6));
+    assert!(rt; !lawful([1_000_001, 0, 0, 0, 0, 0, 0], 0));
+    assert!(rt; !lawful([-1_000_001, 0, 0, 0, 0, 0, 0], 0));
+    assert!(rt; !lawful([0, 0, 0, 0, 0, 0, 1_000_001], 6));
+    assert!(rt; !lawful([0, 0, 0, 0, 0, 0, -2_147_483_648], 6));
 }
 
 #[test]
 fn a_parameter_is_there_or_not(rt: HostRuntime) {
-    assert!(rt; row(0, 0, [0, 0, 1, 0, 0, 0, 0]).is_lawful(0, 2));
-    assert!(rt; !row(0, 0, [0, 0, 1, 0, 0, 0, 0]).is_lawful(0, 1));
-    assert!(rt; row(0, 0, [1, 0, 0, 0, 0, 0, 0]).is_lawful(0, 0));
-    assert!(rt; !row(0, 0, [0, 1, 0, 0, 0, 0, 0]).is_lawful(0, 0));
+    assert!(rt; lawful([0, 0, 1, 0, 0, 0, 0], 2));
+    assert!(rt; !lawful([0, 0, 1, 0, 0, 0, 0], 1));
+    assert!(rt; lawful([1, 0, 0, 0, 0, 0, 0], 0));
+    assert!(rt; !lawful([0, 1, 0, 0, 0, 0, 0], 0));
 }

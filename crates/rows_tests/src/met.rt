@@ -1,13 +1,5 @@
+use crate::build::term;
 use rows::{Row, Valuation};
-
-fn term(strict: bool, t: [i32; 7]) -> Row {
-    Row {
-        i: 0,
-        j: 0,
-        strict,
-        t,
-    }
-}
 
 fn met(r: Row, scale: u32, values: &[u32]) -> bool {
     r.is_met(&Valuation { scale, values })
@@ -73,73 +65,23 @@ fn a_missing_value_counts_as_0(rt: HostRuntime) {
     assert!(rt; !met(longer(), 1, &[1]));
 }
 
+fn in_range(scale: u32, values: &[u32], parameters: u8) -> bool {
+    Valuation { scale, values }.is_in_range(parameters)
+}
+
 #[test]
 fn a_setting_is_in_range(rt: HostRuntime) {
-    assert!(rt;
-        Valuation {
-            scale: 1,
-            values: &[],
-        }
-        .is_in_range(0)
-    );
-    assert!(rt;
-        Valuation {
-            scale: 1_000_000,
-            values: &[0, 1_000_000_000],
-        }
-        .is_in_range(2)
-    );
-    assert!(rt;
-        !Valuation {
-            scale: 0,
-            values: &[],
-        }
-        .is_in_range(0)
-    );
-    assert!(rt;
-        !Valuation {
-            scale: 1_000_001,
-            values: &[],
-        }
-        .is_in_range(0)
-    );
-    assert!(rt;
-        !Valuation {
-            scale: 1,
-            values: &[1_000_000_001, 0],
-        }
-        .is_in_range(2)
-    );
-    assert!(rt;
-        !Valuation {
-            scale: 1,
-            values: &[0, 1_000_000_001],
-        }
-        .is_in_range(2)
-    );
+    assert!(rt; in_range(1, &[], 0));
+    assert!(rt; in_range(1_000_000, &[0, 1_000_000_000], 2));
+    assert!(rt; !in_range(0, &[], 0));
+    assert!(rt; !in_range(1_000_001, &[], 0));
+    assert!(rt; !in_range(1, &[1_000_000_001, 0], 2));
+    assert!(rt; !in_range(1, &[0, 1_000_000_001], 2));
 }
 
 #[test]
 fn there_are_as_many_values_as_parameters(rt: HostRuntime) {
-    assert!(rt;
-        !Valuation {
-            scale: 1,
-            values: &[0],
-        }
-        .is_in_range(2)
-    );
-    assert!(rt;
-        Valuation {
-            scale: 1,
-            values: &[0, 0],
-        }
-        .is_in_range(2)
-    );
-    assert!(rt;
-        !Valuation {
-            scale: 1,
-            values: &[0, 0, 0],
-        }
-        .is_in_range(2)
-    );
+    assert!(rt; !in_range(1, &[0], 2));
+    assert!(rt; in_range(1, &[0, 0], 2));
+    assert!(rt; !in_range(1, &[0, 0, 0], 2));
 }

@@ -1,19 +1,13 @@
+use crate::build::on;
 use rows::{ClockSet, Row};
 
-const T: [i32; 7] = [0, 1, 0, 0, 0, 0, 0];
-
+// A strict row with a coefficient, on these marks.
 fn row(i: u8, j: u8) -> Row {
     Row {
-        i,
-        j,
         strict: true,
-        t: T,
+        t: [0, 1, 0, 0, 0, 0, 0],
+        ..on(i, j)
     }
-}
-
-// The marks are these, and the rest is as it was.
-fn on_marks(r: Row, i: u8, j: u8) -> bool {
-    r.i == i && r.j == j && r.strict && r.t == T
 }
 
 // Clocks 1 and 6.
@@ -38,26 +32,23 @@ fn a_set_is_within_its_last_clock(rt: HostRuntime) {
     assert!(rt; ENDS.is_within(255));
     assert!(rt; !ENDS.is_within(5));
     assert!(rt; !ENDS.is_within(0));
-    let none = ClockSet {
-        members: [false; 6],
-    };
-    assert!(rt; none.is_within(0));
+    assert!(rt; ClockSet::default().is_within(0));
 }
 
 #[test]
 fn a_reset_clock_becomes_mark_0(rt: HostRuntime) {
-    assert!(rt; on_marks(row(1, 0).before_reset(&ENDS), 0, 0));
-    assert!(rt; on_marks(row(0, 6).before_reset(&ENDS), 0, 0));
-    assert!(rt; on_marks(row(1, 2).before_reset(&ENDS), 0, 2));
-    assert!(rt; on_marks(row(2, 6).before_reset(&ENDS), 2, 0));
-    assert!(rt; on_marks(row(2, 3).before_reset(&ENDS), 2, 3));
-    assert!(rt; on_marks(row(0, 7).before_reset(&ENDS), 0, 7));
+    assert_eq!(rt; row(1, 0).before_reset(&ENDS), row(0, 0));
+    assert_eq!(rt; row(0, 6).before_reset(&ENDS), row(0, 0));
+    assert_eq!(rt; row(1, 2).before_reset(&ENDS), row(0, 2));
+    assert_eq!(rt; row(2, 6).before_reset(&ENDS), row(2, 0));
+    assert_eq!(rt; row(2, 3).before_reset(&ENDS), row(2, 3));
+    assert_eq!(rt; row(0, 7).before_reset(&ENDS), row(0, 7));
 }
 
 #[test]
 fn mark_0_becomes_7_where_the_marks_differ(rt: HostRuntime) {
-    assert!(rt; on_marks(row(1, 0).after_wait(), 1, 7));
-    assert!(rt; on_marks(row(0, 1).after_wait(), 7, 1));
-    assert!(rt; on_marks(row(1, 2).after_wait(), 1, 2));
-    assert!(rt; on_marks(row(0, 0).after_wait(), 0, 0));
+    assert_eq!(rt; row(1, 0).after_wait(), row(1, 7));
+    assert_eq!(rt; row(0, 1).after_wait(), row(7, 1));
+    assert_eq!(rt; row(1, 2).after_wait(), row(1, 2));
+    assert_eq!(rt; row(0, 0).after_wait(), row(0, 0));
 }

@@ -1,3 +1,4 @@
+use crate::build::{on, term};
 use report::Formula;
 use rows::Row;
 use std::process::Abort;
@@ -6,64 +7,28 @@ use std::test::Fail;
 fn shown(rt: &(impl Abort + AllocGlobal), row: Row, text: &str) -> Result<(), Fail> {
     let formula = Formula { row };
     let s = format!(in rt.alloc(); "{formula}")?;
-    assert!(rt; s.as_str() == text);
+    assert_eq!(rt; s.as_str(), text);
     Ok(())
 }
 
 #[test]
 fn a_term(rt: HostRuntime) -> Result<(), Fail> {
-    shown(
-        &rt,
-        Row {
-            i: 0,
-            j: 0,
-            strict: true,
-            t: [0, -1, 1, 0, 0, 0, 0],
-        },
-        "0 < p2 - p1",
-    )?;
-    shown(
-        &rt,
-        Row {
-            i: 0,
-            j: 0,
-            strict: false,
-            t: [0; 7],
-        },
-        "0 <= 0",
-    )?;
-    shown(
-        &rt,
-        Row {
-            i: 0,
-            j: 0,
-            strict: true,
-            t: [-1, 0, 0, 0, 0, 0, -2],
-        },
-        "0 < 0 - k - 2p6",
-    )
+    shown(&rt, term(true, [0, -1, 1, 0, 0, 0, 0]), "0 < p2 - p1")?;
+    shown(&rt, term(false, [0; 7]), "0 <= 0")?;
+    shown(&rt, term(true, [-1, 0, 0, 0, 0, 0, -2]), "0 < 0 - k - 2p6")
 }
 
 #[test]
 fn a_bound_on_clocks(rt: HostRuntime) -> Result<(), Fail> {
-    shown(
-        &rt,
-        Row {
-            i: 1,
-            j: 0,
-            strict: false,
-            t: [3, 1, 0, 0, 0, 0, 0],
-        },
-        "x1 - x0 <= 3k + p1",
-    )?;
-    shown(
-        &rt,
-        Row {
-            i: 0,
-            j: 7,
-            strict: true,
-            t: [1, 0, 0, 0, 0, 0, -2_147_483_648],
-        },
-        "x0 - x7 < k - 2147483648p6",
-    )
+    let weak = Row {
+        t: [3, 1, 0, 0, 0, 0, 0],
+        ..on(1, 0)
+    };
+    let strict = Row {
+        strict: true,
+        t: [1, 0, 0, 0, 0, 0, -2_147_483_648],
+        ..on(0, 7)
+    };
+    shown(&rt, weak, "x1 - x0 <= 3k + p1")?;
+    shown(&rt, strict, "x0 - x7 < k - 2147483648p6")
 }

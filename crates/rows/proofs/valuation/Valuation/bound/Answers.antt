@@ -3,7 +3,7 @@ use mir.Syntax.{w128}
 use Rattle.std.proofs.lemmas.Int.{ints, to_z-of_z}
 use Rattle.rows.specs.Points.{weighted_sum}
 use Rattle.rows.specs.Valuations.{weight_of}
-use Rattle.rows.proofs.Valuations.{weighted_sum_more, weighted_sum_all}
+use Rattle.rows.proofs.Valuations.{weighted_sum_more}
 use Rattle.rows.proofs.valuation.Valuation.bound.Goals as goal
 
 sum_fits : (c : ℕ) (a b : ℤ) → c ≤ 7 → nat_abs a ≤ c * 2 ^ 63 → nat_abs b ≤ 2 ^ 63 → SFits w128 (a +ℤ b)
@@ -32,20 +32,6 @@ again f ts c a b l s g h k e p =
     let q : SFits w128 (a +ℤ b) = sum_fits c a b s h k in
     (simp to_z-of_z (turn f ts c a b l e p), simp to_z-of_z (sum_size c a b h k))
 
-fits_still : (c : ℕ) (a b : ℤ) → c ≤ 7 → SFits w128 b → nat_abs a ≤ c * 2 ^ 63 → nat_abs b ≤ 2 ^ 63 → SFits w128 (a +ℤ to_z w128 (of_z w128 b))
-fits_still c a b l g h k = simp to_z-of_z (sum_fits c a b l h k)
-
-ended : (f : ℕ → ℕ) (ts : List ℤ) (c : ℕ) (a : ℤ) → length ts ≤ c → (a +ℤ weighted_sum f c (drop c ts) ≡ weighted_sum f 0 ts) → a ≡ weighted_sum f 0 ts
-ended f ts c a l e =
-    let z = weighted_sum_all f ts c l in
-    let n : a ≡ a +ℤ pos 0 = omega (arith, ints) in
-    n ∙ ap (λ x. a +ℤ x) (sym z) ∙ e
-
-pub overflow_add-sum : goal.overflow_add-sum
-overflow_add-sum c =
-    let g : SFits w128 c.product-sum.result = search rules in
-    fits_still c.loop-c.c _ c.product-sum.result c.loop-c.auto.c-end g c.loop-c.invariant.1 c.product-sum.ensures.size
-
 pub loop-c-preserved : goal.loop-c-preserved
 loop-c-preserved c =
     let v = c.args.self.now in
@@ -56,8 +42,3 @@ loop-c-preserved c =
     let e = simp to_z-of_z at c.product-sum.ensures.value in
     again (weight_of v.scale v.values.now) ts k _ c.product-sum.result (omega arith) c.loop-c.auto.c-end g c.loop-c.invariant.1 c.product-sum.ensures.size c.loop-c.invariant.0
     (e ∙ ap (λ n. get_or ts k (pos 0) *ℤ pos n) c.weight.ensures)
-
-pub returns : goal.returns
-returns c =
-    let v = c.args.self.now in
-    ended (weight_of v.scale v.values.now) c.args.t.now c.loop-c.c _ (omega arith) c.loop-c.invariant.0
