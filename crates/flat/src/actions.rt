@@ -10,14 +10,6 @@ pub(crate) struct ActionSet {
 }
 
 impl ActionSet {
-    fn empty() -> ActionSet
-        ensures value { (x : ℕ) → slice_index_or result.members x false ≡ false }
-    {
-        ActionSet {
-            members: [false; ACTIONS],
-        }
-    }
-
     // Puts the action into the set, if it is from 1 to 15.
     fn add(&mut self, action: u8)
         ensures after { (x : ℕ) → slice_index_or self.new.members x false ≡ (slice_index_or self.old.members x false || ((nat_le 1 action && nat_le action 15) && action == x)) }
@@ -31,7 +23,9 @@ impl ActionSet {
     pub(crate) fn of(edges: &[Edge]) -> ActionSet
         ensures value { (x : ℕ) → slice_index_or result.members x false ≡ uses_action edges.now x }
     {
-        let mut set = ActionSet::empty();
+        let mut set = ActionSet {
+            members: [false; ACTIONS],
+        };
         for edge in edges {
             set.add(edge.action);
         }

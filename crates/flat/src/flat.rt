@@ -32,10 +32,10 @@ impl Model for Flat {
 }
 
 impl Flat {
-    #[tactic(auto, using(crate::specs::WellFormedLemmas::well_formed))]
     /// The flat model on the lists: its table is the one that they describe if they are well-formed, else that of the shut
     /// model. Lists are well-formed when the numbers are within the limits of models, no location or edge has more than 8
     /// rows, every row is lawful, and no location, edge or clock is named that is not there.
+    #[tactic(auto, using(crate::specs::WellFormedLemmas::well_formed))]
     pub fn new(room: Room, lists: Description) -> Flat
         ensures value { result ≡ lists }
         ensures described { WellFormed lists → flat_table result ≡ table_of lists }
@@ -61,8 +61,8 @@ impl Flat {
         self.index.as_ref()
     }
 
-    #[tactic(auto, using(crate::specs::WellFormedLemmas::well_formed))]
     /// Whether the lists are well-formed. If so, the model is the one that they describe, else it is the shut model.
+    #[tactic(auto, using(crate::specs::WellFormedLemmas::well_formed))]
     pub fn is_well_formed(&self) -> bool
         ensures value { result ≡ is_well_formed self.now }
         ensures decides { Decides result (WellFormed self.now) }

@@ -65,11 +65,5 @@ impl Index {
 fn fits(shape: &Shape, edges: &[Edge]) -> bool
     ensures { Decides result (ShapeLimits shape.now × All (EdgeLimits shape.now) edges.now) }
 {
-    shape.is_within_limits() && are_admitted(shape, edges)
-}
-
-fn are_admitted(shape: &Shape, edges: &[Edge]) -> bool
-    ensures { Decides result (All (EdgeLimits shape.now) edges.now) }
-{
-    edges.iter().all(|edge| shape.admits(edge))
+    shape.is_within_limits() && edges.iter().all(|edge| shape.admits(edge))
 }
