@@ -18,14 +18,6 @@ module _ (o : Owners) (es : List AttachedRow) where
     pub few : (q : ℕ) → length (group_at gs q) ≤ 8
     pub each : (q : ℕ) → group_at gs q ≡ rows_of q (take i es)
 
-  pub placed_none : (gs : Groups) → Blank o.count gs → Placed 0 gs
-  placed_none gs b = record {
-    wide = b.wide;
-    owned = All-nil (IsOwned o);
-    few = λ q. omega (arith, b.each q);
-    each = λ q. nil_from_length (group_at gs q) (b.each q);
-  }
-
   module _ (i : ℕ) (d : AttachedRow) (l : i < length es) (gs : Groups) (p : Placed i gs) where
     abbrev entry : AttachedRow
     entry = get_or es i d
