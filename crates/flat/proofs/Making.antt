@@ -1,5 +1,6 @@
 -- What the index of the lists is, at each end of its making.
-use Rattle.std.proofs.Common.{◌≡◌, ℕ, ◌≤◌, ◌⊎◌, true, false, List, [], length, None, Some, All, Any, Decides, vec_items, Option, sym, ap, subst, inl, inr, refl, arith}
+use Rattle.std.proofs.Common.{◌≡◌, ℕ, ◌≤◌, ◌⊎◌, Bool, true, false, List, [], length, slice_index_or, None, Some, All, Any, Decides, vec_items, Option, sym, ap, subst, inl, inr, refl, arith}
+use Rattle.std.specs.Bool.{then_some}
 use Rattle.std.proofs.lemmas.List.{get_or_default}
 use Rattle.models.specs.declared.shape.Shape.{Shape}
 use Rattle.models.specs.declared.edge.Edge.{Edge}
@@ -9,10 +10,10 @@ use Rattle.flat.specs.declared.description.Description.{Description}
 use Rattle.flat.specs.declared.index.Index.{Index}
 use Rattle.flat.specs.declared.groups.Groups.{Groups}
 use Rattle.flat.specs.declared.groups.Owners.{Owners}
-use Rattle.flat.specs.Lists.{rows_of, most_rows, table_of}
+use Rattle.flat.specs.Lists.{rows_of, most_rows, uses_action, shape_of, table_of}
 use Rattle.flat.specs.WellFormed.{WellFormed}
-use Rattle.flat.specs.Groups.{Blank, Grouped, CanGroup, Sorts}
-use Rattle.flat.specs.Indexes.{AnswersAs, Gathered, Indexes}
+use Rattle.flat.specs.Groups.{Grouped, CanGroup, Sorts, owners_in}
+use Rattle.flat.specs.Indexes.{AnswersAs, Indexes}
 use Rattle.flat.specs.ListsLemmas.{largest_bound}
 use Rattle.flat.specs.WellFormedLemmas.{well_formed_decides, not_well_formed, flat_table_described, flat_table_shut, few_of}
 
@@ -42,16 +43,18 @@ module _ (d : Description) where
       let e = (well_formed_decides d).1 w in
       record { well_formed = sym e; answers = subst (AnswersAs d i) (sym (flat_table_described d e)) a }
 
-  module _ (i : Index) (es : List Edge) (g : Gathered d i) (q : es ≡ vec_items d.edges) where
-    abbrev Fits : Shape → List Edge → Type 0
-    Fits h xs = ShapeLimits h × All (EdgeLimits h) xs
+  -- the index as it was gathered, where its numbers and edges are such as a model may have
+  abbrev Fits : Shape → List Edge → Type 0
+  Fits h es = ShapeLimits h × All (EdgeLimits h) es
 
-    pub none_unfit : Decides false (Fits i.shape es) → Indexes d None
-    none_unfit f = none (λ w. let e = f.1 (subst (Fits i.shape) (sym q) (subst (λ h. Fits h (vec_items d.edges)) (sym g.shape) (w.numbers, w.edges))) in cc)
-
-    pub some_fit : Decides true (Fits i.shape es) → Indexes d (Some i)
-    some_fit f =
-        let fits = subst (λ h. Fits h (vec_items d.edges)) g.shape (subst (Fits i.shape) q (f.0 refl)) in
-        some i
-        (record { numbers = fits.0; edges = fits.1; invariants = g.invariants.0.owned; guards = g.guards.0.owned })
-        (record { shape = g.shape; uses = g.actions; bad = λ _. refl; invariant = g.invariants.1.each; edge = λ _. refl; guard = g.guards.1.each })
+  pub made : (b : Bool) (i : Index) (es : List Edge) (r : Option Index) → r ≡ then_some b i → i.shape ≡ shape_of d → es ≡ vec_items d.edges
+      → CanGroup (owners_in d (length (vec_items d.locations))) (vec_items d.invariants) × Grouped (length (vec_items d.locations)) (vec_items d.invariants) i.invariants
+      → CanGroup (owners_in d (length (vec_items d.edges))) (vec_items d.guards) × Grouped (length (vec_items d.edges)) (vec_items d.guards) i.guards
+      → ((x : ℕ) → slice_index_or i.actions.members x false ≡ uses_action (vec_items d.edges) x) → Decides b (Fits i.shape es) → Indexes d r
+  made false i es r is shape edges invariants guards actions f =
+      rw is (none (λ w. let e = f.1 (subst (Fits i.shape) (sym edges) (subst (λ h. Fits h (vec_items d.edges)) (sym shape) (w.numbers, w.edges))) in cc))
+  made true i es r is shape edges invariants guards actions f =
+      let fits = subst (λ h. Fits h (vec_items d.edges)) shape (subst (Fits i.shape) edges (f.0 refl)) in
+      rw is (some i
+      (record { numbers = fits.0; edges = fits.1; invariants = invariants.0.owned; guards = guards.0.owned })
+      (record { shape = shape; uses = actions; bad = λ _. refl; invariant = invariants.1.each; edge = λ _. refl; guard = guards.1.each }))

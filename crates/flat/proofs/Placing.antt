@@ -1,13 +1,13 @@
 -- One entry after the other goes into the group of its owner.
 use Rattle.std.proofs.Common.{◌≡◌, ℕ, ◌+◌, ◌<◌, ◌≤◌, true, false, cond, eqb, List, [], ◌∷◌, ◌++◌, length, get_or, take, All, Decides, vec_len, sym, ap, ◌∙◌, arith}
-use Rattle.std.proofs.lemmas.List.{nil_from_length, length_push, take_all}
+use Rattle.std.proofs.lemmas.List.{length_push, take_all}
 use Rattle.std.proofs.lemmas.Bool.Decides.{nat_tests}
-use Rattle.std.proofs.lemmas.List.Elements.{All-nil, All-more, All-same, All-get_or}
+use Rattle.std.proofs.lemmas.List.Elements.{All-more, All-same, All-get_or}
 use Rattle.flat.specs.declared.description.AttachedRow.{AttachedRow}
 use Rattle.flat.specs.declared.groups.Groups.{Groups}
 use Rattle.flat.specs.declared.groups.Owners.{Owners}
 use Rattle.flat.specs.Lists.{rows_of}
-use Rattle.flat.specs.Groups.{group_at, IsOwned, HasRoom, Adds, Blank, Grouped, CanGroup}
+use Rattle.flat.specs.Groups.{group_at, IsOwned, HasRoom, Adds, Grouped, CanGroup}
 use Rattle.flat.specs.ListsLemmas.{largest_bound, largest_has, rows_of_more, rows_of_next}
 
 module _ (o : Owners) (es : List AttachedRow) where

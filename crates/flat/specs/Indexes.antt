@@ -1,13 +1,13 @@
 -- What the index of a flat model says; without an index the model is shut.
-use Rattle.std.specs.Prelude.{◌≡◌, ℕ, false, length, is_some, Some, MatchOption, vec_items, Option, slice_index_or}
+use Rattle.std.specs.Prelude.{◌≡◌, ℕ, false, is_some, MatchOption, vec_items, Option, slice_index_or}
 use Rattle.std.specs.List.{slice_get}
 use Rattle.models.specs.Tables.{Table}
 use Rattle.models.specs.Shut.{shut_table}
 use Rattle.flat.specs.declared.description.Description.{Description}
 use Rattle.flat.specs.declared.index.Index.{Index}
-use Rattle.flat.specs.Lists.{uses_action, is_bad, shape_of}
+use Rattle.flat.specs.Lists.{is_bad}
 use Rattle.flat.specs.WellFormed.{is_well_formed, flat_table}
-use Rattle.flat.specs.Groups.{group_at, owners_in, Sorts}
+use Rattle.flat.specs.Groups.{group_at}
 
 -- the index and the lists it was made for answer every question as the table does
 pub record AnswersAs (d : Description) (i : Index) (M : Table) : Type 0 where
@@ -17,13 +17,6 @@ pub record AnswersAs (d : Description) (i : Index) (M : Table) : Type 0 where
   pub invariant : (q : ℕ) → group_at i.invariants q ≡ M.invariant q
   pub edge : (k : ℕ) → slice_get (vec_items d.edges) k ≡ M.edge k
   pub guard : (k : ℕ) → group_at i.guards k ≡ M.guard k
-
--- an index with the lists' numbers, groups and actions, before the numbers and edges are held to their limits
-pub record Gathered (d : Description) (i : Index) : Type 0 where
-  pub shape : i.shape ≡ shape_of d
-  pub invariants : Sorts (owners_in d (length (vec_items d.locations))) (vec_items d.invariants) (Some i.invariants)
-  pub guards : Sorts (owners_in d (length (vec_items d.edges))) (vec_items d.guards) (Some i.guards)
-  pub actions : (x : ℕ) → slice_index_or i.actions.members x false ≡ uses_action (vec_items d.edges) x
 
 -- there is an index exactly where the lists are well-formed, and what answers says what they say
 pub record Indexes (d : Description) (o : Option Index) : Type 0 where

@@ -17,11 +17,11 @@ pub(crate) struct Index {
 }
 
 impl Index {
-    ghost use Rattle.flat.specs.Indexes.{Gathered, Indexes};
+    ghost use Rattle.flat.specs.Indexes.{Indexes};
 
     // The index of the lists, or none where they are not well-formed.
     pub(crate) fn new(room: Room, lists: &Description) -> Option<Index>
-        ensures indexes { Indexes lists.now result }
+        ensures { Indexes lists.now result }
     {
         let locations = lists.locations.len();
         let slots = lists.edges.len();
@@ -40,24 +40,12 @@ impl Index {
             invariants: invariants.most(),
             guards: guards.most(),
         };
-        let actions = ActionSet::of(&lists.edges);
-        Index {
+        fits(&shape, &lists.edges).then_some(Index {
             shape,
             invariants,
             guards,
-            actions,
-        }
-        .checked(lists)
-    }
-
-    // What was gathered from the lists is their index if their numbers and edges are such as a model may have.
-    fn checked(self, lists: &Description) -> Option<Index>
-        ensures indexes { Gathered lists.now self → Indexes lists.now result }
-    {
-        if !fits(&self.shape, &lists.edges) {
-            return None;
-        }
-        Some(self)
+            actions: ActionSet::of(&lists.edges),
+        })
     }
 }
 
