@@ -12,13 +12,13 @@ use Rattle.flat.specs.declared.groups.Groups.{Groups}
 use Rattle.flat.specs.declared.groups.Owners.{Owners}
 use Rattle.flat.specs.Lists.{rows_of, most_rows, uses_action, shape_of, table_of}
 use Rattle.flat.specs.WellFormed.{WellFormed}
-use Rattle.flat.specs.Groups.{Grouped, CanGroup, Sorts, owners_in}
+use Rattle.flat.specs.Groups.{Sorts, owners_in}
 use Rattle.flat.specs.Indexes.{AnswersAs, Indexes}
 use Rattle.flat.specs.ListsLemmas.{largest_bound}
 use Rattle.flat.specs.WellFormedLemmas.{well_formed_decides, not_well_formed, flat_table_described, flat_table_shut, few_of}
 
 -- the largest group is as large as the most rows of an owner
-pub most_grouped : (o : Owners) (es : List AttachedRow) (gs : Groups) (most : ℕ) → CanGroup o es × Grouped o.count es gs
+pub most_grouped : (o : Owners) (es : List AttachedRow) (gs : Groups) (most : ℕ) → Sorts o es (Some gs)
     → All (λ g. length g.items ≤ most) (vec_items gs.each) → (most ≡ 0) ⊎ Any (λ g. length g.items ≡ most) (vec_items gs.each) → most ≡ most_rows o.count es
 most_grouped o es gs most (can, grouped) bound attained =
     let known = gs.each.ok.0 in
@@ -48,8 +48,8 @@ module _ (d : Description) where
   Fits h es = ShapeLimits h × All (EdgeLimits h) es
 
   pub made : (b : Bool) (i : Index) (es : List Edge) (r : Option Index) → r ≡ then_some b i → i.shape ≡ shape_of d → es ≡ vec_items d.edges
-      → CanGroup (owners_in d (length (vec_items d.locations))) (vec_items d.invariants) × Grouped (length (vec_items d.locations)) (vec_items d.invariants) i.invariants
-      → CanGroup (owners_in d (length (vec_items d.edges))) (vec_items d.guards) × Grouped (length (vec_items d.edges)) (vec_items d.guards) i.guards
+      → Sorts (owners_in d (length (vec_items d.locations))) (vec_items d.invariants) (Some i.invariants)
+      → Sorts (owners_in d (length (vec_items d.edges))) (vec_items d.guards) (Some i.guards)
       → ((x : ℕ) → slice_index_or i.actions.members x false ≡ uses_action (vec_items d.edges) x) → Decides b (Fits i.shape es) → Indexes d r
   made false i es r is shape edges invariants guards actions f =
       rw is (none (λ w. let e = f.1 (subst (Fits i.shape) (sym edges) (subst (λ h. Fits h (vec_items d.edges)) (sym shape) (w.numbers, w.edges))) in cc))

@@ -2,7 +2,7 @@
 use Rattle.std.proofs.Common.{◌≡◌, ℕ, ◌+◌, ◌<◌, ◌≤◌, true, false, cond, eqb, List, [], ◌∷◌, ◌++◌, length, get_or, take, All, Decides, vec_len, sym, ap, ◌∙◌, arith}
 use Rattle.std.proofs.lemmas.List.{length_push, take_all}
 use Rattle.std.proofs.lemmas.Bool.Decides.{nat_tests}
-use Rattle.std.proofs.lemmas.List.Elements.{All-more, All-same, All-get_or}
+use Rattle.std.proofs.lemmas.List.Elements.{All-more, All-same}
 use Rattle.flat.specs.declared.description.AttachedRow.{AttachedRow}
 use Rattle.flat.specs.declared.groups.Groups.{Groups}
 use Rattle.flat.specs.declared.groups.Owners.{Owners}
@@ -25,7 +25,7 @@ module _ (o : Owners) (es : List AttachedRow) where
     -- the entry is not lawful or has no owner, or its owner has 8 rows already
     pub placed_no : Decides false (IsOwned o entry × HasRoom gs entry.owner) → CanGroup o es → ⊥
     placed_no r c =
-        let k = All-get_or (IsOwned o) es i d l c.owned in
+        let k = c.owned i d l in
         let known = k.known in
         let wide = p.wide in
         let has = largest_has (λ q. length (rows_of q es)) o.count entry.owner known in

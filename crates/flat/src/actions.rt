@@ -6,7 +6,7 @@ use models::{ACTIONS, Edge, LARGEST_ACTION};
 /// A set of actions: place x tells whether action x is in it.
 #[derive(Clone, Copy)]
 pub(crate) struct ActionSet {
-    pub(crate) members: [bool; ACTIONS],
+    members: [bool; ACTIONS],
 }
 
 impl ActionSet {

@@ -7,9 +7,9 @@ use std::alloc::{AllocError, Global};
 /// The owners that there are, and the numbers that their rows have to be lawful for.
 #[derive(Clone, Copy)]
 pub(crate) struct Owners {
-    pub(crate) count: usize,
-    pub(crate) clocks: u8,
-    pub(crate) parameters: u8,
+    count: usize,
+    clocks: u8,
+    parameters: u8,
 }
 
 impl Owners {
@@ -38,17 +38,18 @@ impl Owners {
 /// The rows of a list by their owner: those of owner q, in list order, are in group q.
 #[derive(Drop)]
 pub(crate) struct Groups {
-    pub(crate) each: Vec<ArrayVec<Row, MAX_ROWS>>,
+    each: Vec<ArrayVec<Row, MAX_ROWS>>,
 }
 
 impl Groups {
-    ghost use Rattle.std.specs.Prelude.{◌≡◌, ℕ, ◌≤◌, ◌⊎◌, [], length, is_some, IfOk, All, Any, Decides, vec_len};
+    ghost use Rattle.std.specs.Prelude.{◌≡◌, ◌≤◌, ◌⊎◌, length, is_some, IfOk, All, Any, Decides, vec_len};
     ghost use Rattle.std.specs.List.{slice_get};
     ghost use Rattle.flat.specs.Groups.{group_at, IsOwned, HasRoom, Blank, Sorts, Adds};
 
     // `count` groups without rows.
     pub(crate) fn empty(heap: Global, count: usize) -> Result<Groups, AllocError>
-        ensures made { IfOk result (λ gs. (vec_len gs.each ≡ count) × ((q : ℕ) → group_at gs q ≡ [])) }
+        ensures blank { IfOk result (Blank count) }
+        ensures count { IfOk result (λ gs. vec_len gs.each ≡ count) }
     {
         let each = vec![in heap; ArrayVec::new(); count]?;
         Ok(Groups { each })
