@@ -1,5 +1,5 @@
 -- Which lists make a model, and the table of a flat model.
-use Rattle.std.specs.Prelude.{ℕ, ◌<◌, Bool, true, false, ◌&&◌, length, All, vec_items, nat_lt}
+use Rattle.std.specs.Prelude.{ℕ, ◌<◌, Bool, ◌&&◌, if◌then◌else◌, length, All, vec_items, nat_lt}
 use Rattle.std.specs.List.{list_all}
 use Rattle.rows.specs.Lawful.{Lawful, is_lawful}
 use Rattle.models.specs.Tables.{Table, ShapeLimits, EdgeLimits, is_within_limits, is_admitted}
@@ -34,9 +34,5 @@ is_well_formed d =
     && list_all (is_attached (length (vec_items d.edges)) d.clocks d.parameters) (vec_items d.guards)))
 
 -- the lists' table where they are well-formed, else the shut model's
-abbrev pub table_if : Bool → Description → Table
-table_if true d = table_of d
-table_if false d = shut_table
-
 abbrev pub flat_table : Description → Table
-flat_table d = table_if (is_well_formed d) d
+flat_table d = (if is_well_formed d then table_of d else shut_table)

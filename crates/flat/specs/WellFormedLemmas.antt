@@ -4,7 +4,7 @@ use Rattle.std.proofs.Common.{ap, subst, ◌∙◌, inl, inr, arith}
 use Rattle.std.specs.List.{slice_get, list_all}
 use Rattle.std.proofs.lemmas.List.Elements.{All-head, All-tail, All-map, All-weaker, All-filter}
 use Rattle.std.proofs.lemmas.Option.{slice_get_past, slice_get_within, get_or_from_slice_get, gets}
-use Rattle.std.proofs.lemmas.Bool.{cases_lt, false_from_ne_true, ne_eqb, cond-false}
+use Rattle.std.proofs.lemmas.Bool.{cases_lt, false_from_ne_true, ne_eqb, cond-true, cond-false, cond_both}
 use Rattle.std.proofs.lemmas.Bool.Decides.{nat_tests, Decides-and, Decides-by_and, Decides-like, Decides-ltb}
 use Rattle.rows.specs.Lawful.{Lawful, is_lawful}
 use Rattle.rows.proofs.Lawful.{lawful_decides}
@@ -15,7 +15,7 @@ use Rattle.models.specs.Shut.{shut_table}
 use Rattle.flat.specs.declared.description.AttachedRow.{AttachedRow}
 use Rattle.flat.specs.declared.description.Description.{Description}
 use Rattle.flat.specs.Lists.{rows_of, most_rows, uses_action, is_bad, shape_of, table_of}
-use Rattle.flat.specs.WellFormed.{Attached, WellFormed, is_attached, is_well_formed, table_if, flat_table}
+use Rattle.flat.specs.WellFormed.{Attached, WellFormed, is_attached, is_well_formed, flat_table}
 use Rattle.flat.specs.ListsLemmas.{largest_has}
 
 attached_decides : (n m p : ℕ) (e : AttachedRow) → Decides (is_attached n m p e) (Attached n m p e)
@@ -44,10 +44,10 @@ module _ (d : Description) where
   not_well_formed f = false_from_ne_true (is_well_formed d) (λ e. f (well_formed_decides.0 e))
 
   pub flat_table_described : is_well_formed d ≡ true → flat_table d ≡ table_of d
-  flat_table_described e = ap (λ b. table_if b d) e
+  flat_table_described = cond-true (is_well_formed d) (table_of d) shut_table
 
   pub flat_table_shut : is_well_formed d ≡ false → flat_table d ≡ shut_table
-  flat_table_shut e = ap (λ b. table_if b d) e
+  flat_table_shut = cond-false (is_well_formed d) (table_of d) shut_table
 
 all_nth : {X : Type 0} (P : X → Type 0) (xs : List X) (k : ℕ) (x : X) → All P xs → slice_get xs k ≡ Some x → P x
 all_nth P xs k x h e = subst P (get_or_from_slice_get xs k x x e) (h k x (slice_get_within xs k x e))
@@ -96,11 +96,7 @@ well_formed_limits d s =
 
 -- the table of a flat model keeps the limits, whatever the lists
 pub flat_limits : (d : Description) → Limits (flat_table d)
-flat_limits d = go (is_well_formed d) (λ e. (well_formed_decides d).0 e)
-  where
-    go : (b : Bool) → (b ≡ true → WellFormed d) → Limits (table_if b d)
-    go true f = well_formed_limits d (f refl)
-    go false f = shut_limits
+flat_limits d = cond_both (is_well_formed d) (table_of d) shut_table Limits (λ e. well_formed_limits d ((well_formed_decides d).0 e)) (λ _. shut_limits)
 
 -- whether lists are well-formed, and the table of a flat model on them
 pub ruleset well_formed = (well_formed_decides, not_well_formed, flat_table_described, flat_table_shut)
