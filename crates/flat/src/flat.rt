@@ -1,8 +1,9 @@
-ghost use Rattle.std.specs.Prelude.{◌≡◌, true, false, is_some, Decides, MatchOption};
+ghost use Rattle.std.specs.Prelude.{◌≡◌, true, false, Decides, option_copied};
 ghost use Rattle.models.specs.Shut.{shut_table};
 ghost use Rattle.flat.specs.Lists.{table_of};
 ghost use Rattle.flat.specs.WellFormed.{WellFormed, is_well_formed, flat_table};
-ghost use Rattle.flat.specs.Indexes.{AnswersAs};
+ghost use Rattle.flat.specs.Indexes.{Indexes};
+ghost use Rattle.flat.specs.declared.description.Description.{Description};
 ghost use Rattle.flat.specs.WellFormedLemmas.{flat_limits};
 
 use crate::description::Description;
@@ -21,9 +22,6 @@ pub struct Flat {
 
 /// A flat model is seen as its lists.
 impl Model for Flat {
-    ghost use Rattle.flat.specs.declared.description.Description.{Description};
-    ghost use Rattle.flat.specs.Indexes.{Indexes};
-
     ghost Value = { Description };
 
     ghost view = { λ f. f.lists };
@@ -55,8 +53,7 @@ impl Flat {
 
     // What answers: the index of well-formed lists, or none where the model is the shut one.
     fn index(&self) -> Option<&Index>
-        ensures well_formed { is_some result ≡ is_well_formed self.now }
-        ensures answers { MatchOption result (flat_table self.now ≡ shut_table) (λ i. AnswersAs self.now i.now (flat_table self.now)) }
+        ensures { Indexes self.now (option_copied result) }
     {
         self.index.as_ref()
     }

@@ -1,4 +1,5 @@
-ghost use Rattle.std.specs.Prelude.{◌≡◌, IfOk};
+ghost use Rattle.std.specs.Prelude.{◌≡◌, ℕ, IfOk, vec_len};
+ghost use Rattle.flat.specs.Groups.{Blank};
 
 use crate::groups::Groups;
 use models::{MAX_LOCATIONS, MAX_SLOTS};
@@ -15,9 +16,6 @@ pub struct Room {
 
 /// A room is seen as the numbers of locations and of edges that it has space for.
 impl Model for Room {
-    ghost use Rattle.std.specs.Prelude.{ℕ, vec_len};
-    ghost use Rattle.flat.specs.Groups.{Blank};
-
     ghost Value = { ℕ × ℕ };
 
     ghost view = { λ r. (vec_len r.invariants.each, vec_len r.guards.each) };
