@@ -1,4 +1,4 @@
-use Rattle.std.proofs.Common.{◌≡◌, ℕ, Bool, true, false, cond, not, eqb, List, [], ◌∷◌, ◌++◌, map, refl, ap, ◌∙◌, append_assoc, arith}
+use Rattle.std.proofs.Common.{◌≡◌, ℕ, Bool, true, false, cond, not, eqb, List, [], ◌∷◌, ◌++◌, map, sym, refl, ap, ◌∙◌, append_assoc, append-nil, arith}
 use Rattle.std.specs.List.{All, concat, list_all, onto_first}
 use Rattle.std.proofs.lemmas.Bool.{true≢false, not-true}
 use Rattle.std.proofs.lemmas.List.{append_cancel_right}
@@ -41,10 +41,7 @@ pieces_more (l ∷ ls) more u =
     ∙ (pieces_line l (written ls ++ more) (All-head Unbroken l ls u) ∙ ap (λ (r : List (List ℕ)). ended l ∷ r) (pieces_more ls more (All-tail Unbroken l ls u)))
 
 pub pieces_written : (ls : List Line) → All Unbroken ls → pieces (written ls) ≡ map ended ls
-pieces_written [] u = refl
-pieces_written (l ∷ ls) u =
-    ap pieces (append_assoc l (10 ∷ []) (written ls))
-    ∙ (pieces_line l (written ls) (All-head Unbroken l ls u) ∙ ap (λ (r : List (List ℕ)). ended l ∷ r) (pieces_written ls (All-tail Unbroken l ls u)))
+pieces_written ls u = sym (ap pieces (append-nil (written ls))) ∙ (pieces_more ls [] u ∙ append-nil (map ended ls))
 
 -- a rest with no end of a line is one piece
 pub rest_piece : (x : ℕ) (rest : List ℕ) → Unbroken (x ∷ rest) → pieces (x ∷ rest) ≡ (x ∷ rest) ∷ []
