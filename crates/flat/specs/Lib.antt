@@ -2,7 +2,6 @@ pub mod Lists
 pub mod WellFormed
 pub mod Groups
 pub mod Indexes
-pub mod Meaning
 pub mod Laws
 pub mod WellFormedLemmas
 pub mod ListsLemmas

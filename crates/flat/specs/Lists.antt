@@ -1,6 +1,6 @@
 -- The table that the four lists of a flat model describe.
-use Rattle.std.specs.Prelude.{ℕ, zero, suc, max, Bool, false, ◌&&◌, ◌||◌, List, [], ◌∷◌, map, length, Some, None, vec_items, filter, Option, ◌==◌, nat_eq, nat_le}
-use Rattle.std.specs.List.{slice_get}
+use Rattle.std.specs.Prelude.{ℕ, zero, suc, max, Bool, false, ◌&&◌, List, map, length, Some, None, vec_items, filter, Option, ◌==◌, nat_eq, nat_le}
+use Rattle.std.specs.List.{slice_get, list_any}
 use Rattle.rows.specs.declared.row.Row.{Row}
 use Rattle.models.specs.declared.shape.Shape.{Shape}
 use Rattle.models.specs.declared.edge.Edge.{Edge}
@@ -22,14 +22,9 @@ largest f (suc n) = max (f n) (largest f n)
 abbrev pub most_rows : ℕ → List AttachedRow → ℕ
 most_rows n es = largest (λ q. length (rows_of q es)) n
 
--- some edge has the action
-abbrev pub carries : List Edge → ℕ → Bool
-carries [] x = false
-carries (e ∷ es) x = e.action == x || carries es x
-
 -- an action from 1 to 15 that some edge has
 abbrev pub uses_action : List Edge → ℕ → Bool
-uses_action es x = (nat_le 1 x && nat_le x 15) && carries es x
+uses_action es x = (nat_le 1 x && nat_le x 15) && list_any (λ e. e.action == x) es
 
 -- a location that is there and is marked bad
 abbrev pub is_bad : Option Location → Bool

@@ -1,15 +1,15 @@
 -- What the lists say: the rows of an owner, one entry at a time, the largest number of them, and the actions of the edges.
-use Rattle.std.specs.Prelude.{◌≡◌, ℕ, zero, suc, ◌+◌, ◌<◌, ◌≤◌, max, Bool, true, false, cond, ◌&&◌, ◌||◌, ◌⊎◌, List, [], ◌∷◌, ◌++◌, map, length, get_or, take, drop, Decides, filter, ◌==◌, nat_eq, nat_le, slice_index_or, refl}
+use Rattle.std.specs.Prelude.{◌≡◌, ℕ, zero, suc, ◌+◌, ◌<◌, ◌≤◌, Bool, true, cond, ◌⊎◌, List, [], ◌∷◌, ◌++◌, map, length, get_or, take, drop, Any, Decides, filter, ◌==◌, nat_eq, refl}
 use Rattle.std.proofs.Common.{sym, ap, ◌∙◌, inl, inr, arith}
-use Rattle.std.specs.List.{HoldsAt}
-use Rattle.std.proofs.lemmas.List.Elements.{filter-append, filter_more}
-use Rattle.std.proofs.lemmas.List.{append-nil, map-append, length-map, length-append, length_push, take-append-drop, take_more}
-use Rattle.std.proofs.lemmas.Bool.{cases_lt, cond-true, eq-eqb}
-use Rattle.std.proofs.lemmas.Bool.Decides.{nat_tests, Decides-eqb, Decides-by_or}
-use Rattle.rows.specs.declared.row.Row.{Row}
+use Rattle.std.specs.List.{list_any}
+use Rattle.std.proofs.lemmas.List.Folds.{Any-from_list_any, list_any-from_Any}
+use Rattle.std.proofs.lemmas.List.Elements.{filter-append}
+use Rattle.std.proofs.lemmas.List.{take_more, append-nil, map-append, length-append, take-append-drop}
+use Rattle.std.proofs.lemmas.Bool.{cases_lt, eq-eqb, eqb-true}
+use Rattle.std.proofs.lemmas.Bool.Decides.{nat_tests}
 use Rattle.models.specs.declared.edge.Edge.{Edge}
 use Rattle.flat.specs.declared.description.AttachedRow.{AttachedRow}
-use Rattle.flat.specs.Lists.{rows_of, largest, carries, uses_action}
+use Rattle.flat.specs.Lists.{rows_of, largest, uses_action}
 use Rattle.flat.specs.Laws.{ListLaws}
 
 pub largest_bound : (f : ℕ → ℕ) (n b : ℕ) → ((q : ℕ) → q < n → f q ≤ b) → largest f n ≤ b
@@ -23,63 +23,30 @@ pub largest_has : (f : ℕ → ℕ) (n q : ℕ) → q < n → f q ≤ largest f 
 largest_has f zero q l = absurd (omega arith)
 largest_has f (suc n) q l = elim (cases_lt q n) [ inl k ↦ (let i = largest_has f n q k in omega arith) | inr k ↦ (let e : f q ≡ f n = ap f (omega arith) in omega arith) ]
 
-pub largest_like : (f g : ℕ → ℕ) (n : ℕ) → ((q : ℕ) → f q ≡ g q) → largest f n ≡ largest g n
-largest_like f g zero h = refl
-largest_like f g (suc n) h = ap (λ x. max x (largest f n)) (h n) ∙ ap (max (g n)) (largest_like f g n h)
+rows_of-append : (q : ℕ) (xs ys : List AttachedRow) → rows_of q (xs ++ ys) ≡ rows_of q xs ++ rows_of q ys
+rows_of-append q xs ys =
+    let p : AttachedRow → Bool = λ e. nat_eq e.owner q in
+    ap (map (λ e. e.row)) (filter-append p xs ys) ∙ map-append (λ e. e.row) (filter p xs) (filter p ys)
 
--- what is 0 does not count
-pub largest_rest : (f : ℕ → ℕ) (n k : ℕ) → n ≤ k → ((q : ℕ) → n ≤ q → f q ≡ 0) → largest f k ≡ largest f n
-largest_rest f n zero l h = let e : 0 ≡ n = omega arith in ap (largest f) e
-largest_rest f n (suc k) l h = elim (cases_lt k n) [ inl g ↦ (let e : suc k ≡ n = omega arith in ap (largest f) e) | inr g ↦ (let z = h k g in let e = largest_rest f n k g h in omega arith) ]
-
-joined : (r : Row) (b : Bool) (xs : List AttachedRow) (e : AttachedRow) → e.row ≡ r
-    → map (λ x. x.row) (xs ++ cond b (e ∷ []) []) ≡ cond b (map (λ x. x.row) xs ++ r ∷ []) (map (λ x. x.row) xs)
-joined r true xs e h = map-append (λ x. x.row) xs (e ∷ []) ∙ ap (λ x. map (λ y. y.row) xs ++ x ∷ []) h
-joined r false xs e h = map-append (λ x. x.row) xs [] ∙ append-nil (map (λ x. x.row) xs)
-
+-- one entry more
 pub rows_of_more : (q : ℕ) (es : List AttachedRow) (i : ℕ) (d : AttachedRow) → i < length es
     → rows_of q (take (i + 1) es) ≡ cond ((get_or es i d).owner == q) (rows_of q (take i es) ++ (get_or es i d).row ∷ []) (rows_of q (take i es))
-rows_of_more q es i d l =
-    ap (map (λ x. x.row)) (filter_more (λ e. nat_eq e.owner q) es i d l)
-    ∙ joined (get_or es i d).row ((get_or es i d).owner == q) (filter (λ e. nat_eq e.owner q) (take i es)) (slice_index_or es i d) refl
-
--- a part of the list has no more rows of an owner than the whole
-pub rows_of_part : (q : ℕ) (es : List AttachedRow) (i : ℕ) → length (rows_of q (take i es)) ≤ length (rows_of q es)
-rows_of_part q es i =
-    let p : AttachedRow → Bool = λ e. nat_eq e.owner q in
-    let whole = ap (λ xs. length (filter p xs)) (sym (take-append-drop i es)) ∙ ap length (filter-append p (take i es) (drop i es)) ∙ length-append (filter p (take i es)) (filter p (drop i es)) in
-    omega (arith, whole, length-map (filter p (take i es)) (λ x. x.row), length-map (filter p es) (λ x. x.row))
+rows_of_more q es i d l = ap (rows_of q) (take_more es i d l) ∙ rows_of-append q (take i es) (get_or es i d ∷ []) ∙ grind (arith, nat_tests, append-nil)
 
 -- the owner of the next entry has one row more
 pub rows_of_next : (es : List AttachedRow) (i : ℕ) (d : AttachedRow) → i < length es → length (rows_of (get_or es i d).owner (take i es)) < length (rows_of (get_or es i d).owner es)
 rows_of_next es i d l =
     let o = (get_or es i d).owner in
-    let more = ap length (rows_of_more o es i d l ∙ cond-true (o == o) (rows_of o (take i es) ++ (get_or es i d).row ∷ []) (rows_of o (take i es)) (eq-eqb o o refl)) in
-    omega (arith, more, length_push (rows_of o (take i es)) (get_or es i d).row, rows_of_part o es (i + 1))
+    let whole = ap (rows_of o) (sym (take-append-drop (i + 1) es)) ∙ rows_of-append o (take (i + 1) es) (drop (i + 1) es) in
+    grind (arith, nat_tests, length-append, whole, rows_of_more o es i d l)
 
-carries_push : (es : List Edge) (e : Edge) (x : ℕ) → carries (es ++ e ∷ []) x ≡ (carries es x || e.action == x)
-carries_push [] e x = grind arith
-carries_push (y ∷ ys) e x = let h = carries_push ys e x in grind arith
-
--- one edge more
-pub uses_action_more : (es : List Edge) (i : ℕ) (d : Edge) (x : ℕ) → i < length es
-    → uses_action (take (i + 1) es) x ≡ (uses_action (take i es) x || ((nat_le 1 (get_or es i d).action && nat_le (get_or es i d).action 15) && (get_or es i d).action == x))
-uses_action_more es i d x l =
-    let a = (get_or es i d).action in
-    let h : carries (take (i + 1) es) x ≡ (carries (take i es) x || a == x) = ap (λ ys. carries ys x) (take_more es i d l) ∙ carries_push (take i es) (slice_index_or es i d) x in
-    ap (λ b. (nat_le 1 x && nat_le x 15) && b) h ∙ spread (carries (take i es) x) a
-  where
-    spread : (b : Bool) (a : ℕ) → ((nat_le 1 x && nat_le x 15) && (b || a == x)) ≡ (((nat_le 1 x && nat_le x 15) && b) || ((nat_le 1 a && nat_le a 15) && a == x))
-    spread b a = grind (arith, nat_tests)
-
-carries_decides : (es : List Edge) (x : ℕ) → Decides (carries es x) ((k : ℕ) × (k < length es) × HoldsAt (λ e. e.action ≡ x) es k)
-carries_decides es x = Decides-by_or (λ e. nat_eq e.action x) (λ e. e.action ≡ x) (λ ys. carries ys x) (λ e. Decides-eqb e.action x) refl (λ _ _. refl) es
-
-used_decides : (es : List Edge) (x : ℕ) → Decides (uses_action es x) ((1 ≤ x) × (x ≤ 15) × ((k : ℕ) × (k < length es) × HoldsAt (λ e. e.action ≡ x) es k))
+used_decides : (es : List Edge) (x : ℕ) → Decides (uses_action es x) ((1 ≤ x) × (x ≤ 15) × Any (λ e. e.action ≡ x) es)
 used_decides es x =
-    let d = carries_decides es x in (
-      λ h. let c : carries es x ≡ true = grind arith in (grind (arith, nat_tests), grind (arith, nat_tests), d.0 c),
-      λ h. let a = h.0 in let b = h.1 in let c = d.1 h.2 in grind (arith, nat_tests),
+    let found : Edge → Bool = λ e. e.action == x in (
+      λ h.
+          let c : list_any found es ≡ true = grind arith in
+          let a = Any-from_list_any found es c in (grind (arith, nat_tests), grind (arith, nat_tests), (a.0, a.1, a.2, a.3, eqb-true _ x a.4)),
+      λ (low, high, a). let c = list_any-from_Any found es (a.0, a.1, a.2, a.3, eq-eqb _ x a.4) in grind (arith, nat_tests),
     )
 
 largest_attained : (f : ℕ → ℕ) (n : ℕ) → (largest f n ≡ 0) ⊎ ((q : ℕ) × (q < n) × (f q ≡ largest f n))

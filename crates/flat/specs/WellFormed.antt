@@ -1,9 +1,7 @@
 -- Which lists make a model, and the table of a flat model.
-use Rattle.std.specs.Prelude.{ℕ, ◌<◌, Bool, true, false, ◌&&◌, List, [], ◌∷◌, length, vec_items, nat_lt}
-use Rattle.std.specs.List.{AllByRecursion}
+use Rattle.std.specs.Prelude.{ℕ, ◌<◌, Bool, true, false, ◌&&◌, length, All, vec_items, nat_lt}
+use Rattle.std.specs.List.{list_all}
 use Rattle.rows.specs.Lawful.{Lawful, is_lawful}
-use Rattle.models.specs.declared.shape.Shape.{Shape}
-use Rattle.models.specs.declared.edge.Edge.{Edge}
 use Rattle.models.specs.Tables.{Table, ShapeLimits, EdgeLimits, is_within_limits, is_admitted}
 use Rattle.models.specs.Shut.{shut_table}
 use Rattle.flat.specs.declared.description.AttachedRow.{AttachedRow}
@@ -19,29 +17,21 @@ pub record Attached (owners m n : ℕ) (e : AttachedRow) : Type 0 where
 pub record WellFormed (d : Description) : Type 0 where
   -- the numbers, with the largest numbers of invariant rows of a location and of guard rows of an edge
   pub numbers : ShapeLimits (shape_of d)
-  pub edges : AllByRecursion (EdgeLimits (shape_of d)) (vec_items d.edges)
-  pub invariants : AllByRecursion (Attached (length (vec_items d.locations)) d.clocks d.parameters) (vec_items d.invariants)
-  pub guards : AllByRecursion (Attached (length (vec_items d.edges)) d.clocks d.parameters) (vec_items d.guards)
+  pub edges : All (EdgeLimits (shape_of d)) (vec_items d.edges)
+  pub invariants : All (Attached (length (vec_items d.locations)) d.clocks d.parameters) (vec_items d.invariants)
+  pub guards : All (Attached (length (vec_items d.edges)) d.clocks d.parameters) (vec_items d.guards)
 
 -- the same as tests, for definitions that have to decide
 
 abbrev pub is_attached : ℕ → ℕ → ℕ → AttachedRow → Bool
 is_attached owners m n e = nat_lt e.owner owners && is_lawful m n e.row
 
-abbrev pub are_attached : ℕ → ℕ → ℕ → List AttachedRow → Bool
-are_attached owners m n [] = true
-are_attached owners m n (e ∷ es) = is_attached owners m n e && are_attached owners m n es
-
-abbrev pub are_admitted : Shape → List Edge → Bool
-are_admitted h [] = true
-are_admitted h (e ∷ es) = is_admitted h e && are_admitted h es
-
 abbrev pub is_well_formed : Description → Bool
 is_well_formed d =
     is_within_limits (shape_of d)
-    && (are_admitted (shape_of d) (vec_items d.edges)
-    && (are_attached (length (vec_items d.locations)) d.clocks d.parameters (vec_items d.invariants)
-    && are_attached (length (vec_items d.edges)) d.clocks d.parameters (vec_items d.guards)))
+    && (list_all (is_admitted (shape_of d)) (vec_items d.edges)
+    && (list_all (is_attached (length (vec_items d.locations)) d.clocks d.parameters) (vec_items d.invariants)
+    && list_all (is_attached (length (vec_items d.edges)) d.clocks d.parameters) (vec_items d.guards)))
 
 -- the lists' table where they are well-formed, else the shut model's
 abbrev pub table_if : Bool → Description → Table

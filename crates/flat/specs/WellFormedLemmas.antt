@@ -1,22 +1,21 @@
 -- The test of the lists decides whether they are well-formed, and a table of well-formed lists keeps the limits of models.
-use Rattle.std.specs.Prelude.{◌≡◌, ℕ, zero, suc, ◌<◌, ◌≤◌, Bool, true, false, ◌&&◌, List, [], ◌∷◌, map, length, Some, None, vec_items, Decides, filter, All, ◌==◌, nat_eq, nat_lt, refl}
+use Rattle.std.specs.Prelude.{◌≡◌, ℕ, ◌<◌, ◌≤◌, Bool, true, false, List, [], ◌∷◌, map, length, Some, None, vec_items, All, Decides, filter, ◌==◌, nat_eq, nat_lt, refl}
 use Rattle.std.proofs.Common.{ap, subst, ◌∙◌, inl, inr, arith}
-use Rattle.std.specs.List.{slice_get, AllByRecursion}
-use Rattle.std.proofs.lemmas.List.Elements.{All-from_recursion}
-use Rattle.std.proofs.ByRecursion.{All-map, All-weaker, all_kept_by, Decides-by_and}
-use Rattle.std.proofs.lemmas.Option.{slice_get_past}
-use Rattle.std.proofs.lemmas.Bool.{cases_lt, cases_Bool, ne_eqb, cond-false}
-use Rattle.std.proofs.lemmas.Bool.Decides.{nat_tests, Decides-and, Decides-like, Decides-ltb}
+use Rattle.std.specs.List.{slice_get, list_all}
+use Rattle.std.proofs.lemmas.List.Elements.{All-head, All-tail, All-map, All-weaker, All-filter}
+use Rattle.std.proofs.lemmas.Option.{slice_get_past, slice_get_within, get_or_from_slice_get, gets}
+use Rattle.std.proofs.lemmas.Bool.{cases_lt, false_from_ne_true, ne_eqb, cond-false}
+use Rattle.std.proofs.lemmas.Bool.Decides.{nat_tests, Decides-and, Decides-by_and, Decides-like, Decides-ltb}
 use Rattle.rows.specs.Lawful.{Lawful, is_lawful}
 use Rattle.rows.proofs.Lawful.{lawful_decides}
-use Rattle.models.specs.declared.shape.Shape.{Shape}
 use Rattle.models.specs.declared.edge.Edge.{Edge}
-use Rattle.models.specs.Tables.{EdgeLimits, Limits, is_within_limits, is_admitted}
+use Rattle.models.specs.Tables.{EdgeLimits, Limits, is_admitted}
 use Rattle.models.proofs.Tables.{within_limits_decides, admitted_decides, shut_limits}
+use Rattle.models.specs.Shut.{shut_table}
 use Rattle.flat.specs.declared.description.AttachedRow.{AttachedRow}
 use Rattle.flat.specs.declared.description.Description.{Description}
 use Rattle.flat.specs.Lists.{rows_of, most_rows, uses_action, is_bad, shape_of, table_of}
-use Rattle.flat.specs.WellFormed.{Attached, WellFormed, is_attached, are_attached, are_admitted, is_well_formed, table_if, flat_table}
+use Rattle.flat.specs.WellFormed.{Attached, WellFormed, is_attached, is_well_formed, table_if, flat_table}
 use Rattle.flat.specs.ListsLemmas.{largest_has}
 
 attached_decides : (n m p : ℕ) (e : AttachedRow) → Decides (is_attached n m p e) (Attached n m p e)
@@ -24,60 +23,55 @@ attached_decides n m p e =
     Decides-like (is_attached n m p e) (λ h. record { known = h.0; lawful = h.1 }) (λ h. (h.known, h.lawful))
     (Decides-and (nat_lt e.owner n) (is_lawful m p e.row) (Decides-ltb e.owner n) (lawful_decides m p e.row))
 
-pub all_attached_decides : (n m p : ℕ) (es : List AttachedRow) → Decides (are_attached n m p es) (AllByRecursion (Attached n m p) es)
-all_attached_decides n m p es = Decides-by_and (is_attached n m p) (Attached n m p) (are_attached n m p) (attached_decides n m p) refl (λ _ _. refl) es
-
-pub all_admitted_decides : (h : Shape) (es : List Edge) → Decides (are_admitted h es) (AllByRecursion (EdgeLimits h) es)
-all_admitted_decides h es = Decides-by_and (is_admitted h) (EdgeLimits h) (are_admitted h) (admitted_decides h) refl (λ _ _. refl) es
+-- a test of each decides what it tests of each
+each_decides : {X : Type 0} (p : X → Bool) (P : X → Type 0) → ((x : X) → Decides (p x) (P x)) → (xs : List X) → Decides (list_all p xs) (All P xs)
+each_decides p P h = Decides-by_and p P (list_all p) h refl (λ _ _. refl)
 
 module _ (d : Description) where
   pub well_formed_decides : Decides (is_well_formed d) (WellFormed d)
   well_formed_decides =
       let h = shape_of d in
-      let n = length (vec_items d.locations) in
-      let k = length (vec_items d.edges) in
-      let is = vec_items d.invariants in
-      let gs = vec_items d.guards in
-      let a = are_admitted h (vec_items d.edges) in
-      let b = are_attached n d.clocks d.parameters is in
-      let c = are_attached k d.clocks d.parameters gs in
+      let rows_decide = λ (n : ℕ) (es : List AttachedRow). each_decides (is_attached n d.clocks d.parameters) (Attached n d.clocks d.parameters) (attached_decides n d.clocks d.parameters) es in
       Decides-like (is_well_formed d)
       (λ s. record { numbers = s.0; edges = s.1.0; invariants = s.1.1.0; guards = s.1.1.1 })
       (λ s. (s.numbers, (s.edges, (s.invariants, s.guards))))
-      (Decides-and (is_within_limits h) (a && (b && c)) (within_limits_decides h)
-      (Decides-and a (b && c) (all_admitted_decides h (vec_items d.edges))
-      (Decides-and b c (all_attached_decides n d.clocks d.parameters is) (all_attached_decides k d.clocks d.parameters gs))))
+      (Decides-and _ _ (within_limits_decides h)
+      (Decides-and _ _ (each_decides (is_admitted h) (EdgeLimits h) (admitted_decides h) (vec_items d.edges))
+      (Decides-and _ _ (rows_decide (length (vec_items d.locations)) (vec_items d.invariants)) (rows_decide (length (vec_items d.edges)) (vec_items d.guards)))))
 
   -- lists of which something is not so are not well-formed
   pub not_well_formed : (WellFormed d → ⊥) → is_well_formed d ≡ false
-  not_well_formed f = elim (cases_Bool (is_well_formed d)) [ inl e ↦ absurd (f (well_formed_decides.0 e)) | inr e ↦ e ]
+  not_well_formed f = false_from_ne_true (is_well_formed d) (λ e. f (well_formed_decides.0 e))
 
-all_nth : {X : Type 0} (P : X → Type 0) (xs : List X) (k : ℕ) (x : X) → AllByRecursion P xs → slice_get xs k ≡ Some x → P x
-all_nth P [] k x h e = let z : ◌≡◌ {A = ℕ} 0 1 = cc in absurd (omega arith)
-all_nth P (y ∷ ys) zero x h e = let s : y ≡ x = cc in subst P s h.0
-all_nth P (y ∷ ys) (suc k) x h e = all_nth P ys k x h.1 e
+  pub flat_table_described : is_well_formed d ≡ true → flat_table d ≡ table_of d
+  flat_table_described e = ap (λ b. table_if b d) e
+
+  pub flat_table_shut : is_well_formed d ≡ false → flat_table d ≡ shut_table
+  flat_table_shut e = ap (λ b. table_if b d) e
+
+all_nth : {X : Type 0} (P : X → Type 0) (xs : List X) (k : ℕ) (x : X) → All P xs → slice_get xs k ≡ Some x → P x
+all_nth P xs k x h e = subst P (get_or_from_slice_get xs k x x e) (h k x (slice_get_within xs k x e))
 
 nth_none : {X : Type 0} (xs : List X) (k : ℕ) → slice_get xs k ≡ None → length xs ≤ k
-nth_none [] k e = omega arith
-nth_none (y ∷ ys) zero e = let z : ◌≡◌ {A = ℕ} 0 1 = cc in absurd (omega arith)
-nth_none (y ∷ ys) (suc k) e = let l = nth_none ys k e in omega arith
+nth_none xs k e = grind (arith, gets)
 
 module _ (n m p : ℕ) where
   -- who is not among the owners has no rows
-  pub rows_of_nobody : (q : ℕ) (es : List AttachedRow) → n ≤ q → AllByRecursion (Attached n m p) es → rows_of q es ≡ []
+  pub rows_of_nobody : (q : ℕ) (es : List AttachedRow) → n ≤ q → All (Attached n m p) es → rows_of q es ≡ []
   rows_of_nobody q [] l h = refl
   rows_of_nobody q (e ∷ es) l h =
-      let k = h.0.known in
+      let k = (All-head (Attached n m p) e es h).known in
       ap (map (λ x. x.row)) (cond-false (e.owner == q) (e ∷ filter (λ x. nat_eq x.owner q) es) (filter (λ x. nat_eq x.owner q) es) (ne_eqb e.owner q (λ s. omega arith)))
-      ∙ rows_of_nobody q es l h.1
+      ∙ rows_of_nobody q es l (All-tail (Attached n m p) e es h)
 
-  few_of : (q : ℕ) (es : List AttachedRow) → AllByRecursion (Attached n m p) es → length (rows_of q es) ≤ most_rows n es
+  -- nobody has more than the most rows of an owner
+  pub few_of : (q : ℕ) (es : List AttachedRow) → All (Attached n m p) es → length (rows_of q es) ≤ most_rows n es
   few_of q es h = elim (cases_lt q n) [ inl l ↦ largest_has (λ x. length (rows_of x es)) n q l | inr l ↦ omega (arith, ap length (rows_of_nobody q es l h)) ]
 
-  lawful_of : (q : ℕ) (es : List AttachedRow) → AllByRecursion (Attached n m p) es → All (Lawful m p) (rows_of q es)
+  lawful_of : (q : ℕ) (es : List AttachedRow) → All (Attached n m p) es → All (Lawful m p) (rows_of q es)
   lawful_of q es h =
-      All-from_recursion (Lawful m p) (rows_of q es) (All-map (Lawful m p) (λ e. e.row) (filter (λ e. nat_eq e.owner q) es)
-      (all_kept_by (λ e. nat_eq e.owner q) (λ e. Lawful m p e.row) es (All-weaker (Attached n m p) (λ e. Lawful m p e.row) (λ e o. o.lawful) es h)))
+      All-map (Lawful m p) (λ e. e.row) (filter (λ e. nat_eq e.owner q) es)
+      (All-filter (λ e. nat_eq e.owner q) (λ e. Lawful m p e.row) es (All-weaker (Attached n m p) (λ e. Lawful m p e.row) (λ e o. o.lawful) es h))
 
 unused : (es : List Edge) (x : ℕ) → 15 < x → uses_action es x ≡ false
 unused es x l = grind (arith, nat_tests)
@@ -107,3 +101,6 @@ flat_limits d = go (is_well_formed d) (λ e. (well_formed_decides d).0 e)
     go : (b : Bool) → (b ≡ true → WellFormed d) → Limits (table_if b d)
     go true f = well_formed_limits d (f refl)
     go false f = shut_limits
+
+-- whether lists are well-formed, and the table of a flat model on them
+pub ruleset well_formed = (well_formed_decides, not_well_formed, flat_table_described, flat_table_shut)

@@ -1,24 +1,21 @@
 ghost use Rattle.std.specs.Prelude.{◌≡◌, ℕ, false, ◌&&◌, ◌||◌, ◌==◌, nat_le, slice_index_or};
 ghost use Rattle.flat.specs.Lists.{uses_action};
 
-use crate::index::ActionSet;
 use models::{ACTIONS, Edge, LARGEST_ACTION};
 
-impl ActionSet {
-    fn empty() -> ActionSet
-        ensures value { (x : ℕ) → slice_index_or result.members x false ≡ false }
-    {
-        ActionSet {
-            members: [false; ACTIONS],
-        }
-    }
+/// A set of actions: place x tells whether action x is in it.
+#[derive(Clone, Copy)]
+pub(crate) struct ActionSet {
+    members: [bool; ACTIONS],
+}
 
+impl ActionSet {
     // Puts the action into the set, if it is from 1 to 15.
     fn add(&mut self, action: u8)
         ensures after { (x : ℕ) → slice_index_or self.new.members x false ≡ (slice_index_or self.old.members x false || ((nat_le 1 action && nat_le action 15) && action == x)) }
     {
-        if 1 <= action && action <= LARGEST_ACTION {
-            self.members[action as usize] = true;
+        if (1..=LARGEST_ACTION).contains(&action) {
+            self.members[usize::from(action)] = true;
         }
     }
 
@@ -26,7 +23,9 @@ impl ActionSet {
     pub(crate) fn of(edges: &[Edge]) -> ActionSet
         ensures value { (x : ℕ) → slice_index_or result.members x false ≡ uses_action edges.now x }
     {
-        let mut set = ActionSet::empty();
+        let mut set = ActionSet {
+            members: [false; ACTIONS],
+        };
         for edge in edges {
             set.add(edge.action);
         }
@@ -36,9 +35,9 @@ impl ActionSet {
     pub(crate) fn has(&self, action: u8) -> bool
         ensures value { result ≡ slice_index_or self.now.members action false }
     {
-        match self.members.get(action as usize) {
-            Some(member) => *member,
-            None => false,
-        }
+        self.members
+            .get(usize::from(action))
+            .copied()
+            .unwrap_or(false)
     }
 }

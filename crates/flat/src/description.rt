@@ -27,3 +27,25 @@ pub struct Description {
     pub edges: Vec<Edge>,
     pub guards: Vec<AttachedRow>,
 }
+
+impl Description {
+    ghost use Rattle.std.specs.Prelude.{◌≡◌};
+    ghost use Rattle.std.specs.List.{slice_get};
+    ghost use Rattle.flat.specs.Lists.{is_bad};
+
+    // Whether the location is there and bad.
+    pub(crate) fn is_bad(&self, location: u8) -> bool
+        ensures value { result ≡ is_bad (slice_get self.now.locations.items location) }
+    {
+        self.locations
+            .get(usize::from(location))
+            .is_some_and(|location| location.bad)
+    }
+
+    // The edge of that number, if it is there.
+    pub(crate) fn edge(&self, number: u16) -> Option<Edge>
+        ensures value { result ≡ slice_get self.now.edges.items number }
+    {
+        self.edges.get(usize::from(number)).copied()
+    }
+}

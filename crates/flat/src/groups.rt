@@ -1,145 +1,112 @@
-ghost use Rattle.std.specs.Prelude.{◌≡◌, ℕ, ◌&&◌, [], ◌∷◌, ◌++◌, length, IfOk, if◌then◌else◌, vec_len, nat_lt};
-ghost use Rattle.std.specs.List.{slice_get};
-ghost use Rattle.std.specs.Option.{option_map};
-ghost use Rattle.flat.specs.Lists.{largest};
-ghost use Rattle.flat.specs.WellFormed.{is_attached};
-ghost use Rattle.flat.specs.Groups.{listed, group_at, Blank, Sorts, Adds};
-
-use crate::description::AttachedRow;
-use crate::group::{Group, Groups};
+use crate::description::{AttachedRow, Description};
+use arrayvec::ArrayVec;
 use models::MAX_ROWS;
 use rows::Row;
 use std::alloc::{AllocError, Global};
 
-const BLANK: Row = Row {
-    i: 0,
-    j: 0,
-    strict: false,
-    t: [0; 7],
-};
+/// The owners that there are, and the numbers that their rows have to be lawful for.
+#[derive(Clone, Copy)]
+pub(crate) struct Owners {
+    count: usize,
+    clocks: u8,
+    parameters: u8,
+}
 
-impl Group {
-    fn empty() -> Group
-        ensures value { listed result ≡ [] }
+impl Owners {
+    ghost use Rattle.std.specs.Prelude.{◌≡◌, Decides};
+    ghost use Rattle.flat.specs.Groups.{IsOwned, owners_in};
+
+    // So many owners, of rows with the clocks and parameters of the lists.
+    pub(crate) fn new(count: usize, lists: &Description) -> Owners
+        ensures { result ≡ owners_in lists.now count }
     {
-        Group {
-            rows: [BLANK; MAX_ROWS],
-            count: 0,
+        Owners {
+            count,
+            clocks: lists.clocks,
+            parameters: lists.parameters,
         }
     }
 
-    // One row more at the end; false where there is no room.
-    fn push(&mut self, row: Row) -> bool
-        ensures value { result ≡ nat_lt (length (listed self.old)) 8 }
-        ensures after { listed self.new ≡ (if result then listed self.old ++ row ∷ [] else listed self.old) }
+    // Whether the entry is a lawful row of one of the owners.
+    fn admit(self, entry: &AttachedRow) -> bool
+        ensures { Decides result (IsOwned self entry.now) }
     {
-        let n = self.count as usize;
-        if n >= MAX_ROWS {
-            return false;
-        }
-        self.rows[n] = row;
-        self.count += 1;
-        true
-    }
-
-    fn count(&self) -> u8
-        ensures value { result ≡ length (listed self.now) }
-    {
-        self.count
-    }
-
-    fn row(&self, k: u8) -> Option<Row>
-        ensures value { result ≡ slice_get (listed self.now) k }
-    {
-        if k < self.count {
-            Some(self.rows[k as usize])
-        } else {
-            None
-        }
+        usize::from(entry.owner) < self.count && entry.row.is_lawful(self.clocks, self.parameters)
     }
 }
 
+/// The rows of a list by their owner: those of owner q, in list order, are in group q.
+#[derive(Drop)]
+pub(crate) struct Groups {
+    each: Vec<ArrayVec<Row, MAX_ROWS>>,
+}
+
 impl Groups {
+    ghost use Rattle.std.specs.Prelude.{◌≡◌, ◌≤◌, ◌⊎◌, length, is_some, IfOk, All, Any, Decides, vec_len};
+    ghost use Rattle.std.specs.List.{slice_get};
+    ghost use Rattle.flat.specs.Groups.{group_at, IsOwned, HasRoom, Blank, Sorts, Adds};
+
     // `count` groups without rows.
     pub(crate) fn empty(heap: Global, count: usize) -> Result<Groups, AllocError>
-        ensures made { IfOk result (λ gs. (vec_len gs.each ≡ count) × ((q : ℕ) → group_at gs q ≡ [])) }
+        ensures blank { IfOk result (Blank count) }
+        ensures count { IfOk result (λ gs. vec_len gs.each ≡ count) }
     {
-        let each = vec![in heap; Group::empty(); count]?;
+        let each = vec![in heap; ArrayVec::new(); count]?;
         Ok(Groups { each })
     }
 
-    // One row more for the owner; false where it has no group or its group has no room.
-    fn add(&mut self, owner: u16, row: Row) -> bool
-        ensures value { result ≡ (nat_lt owner (vec_len self.old.each) && nat_lt (length (group_at self.old owner)) 8) }
-        ensures after { Adds result owner row self.old self.new }
+    // One entry more, in the group of its owner; none, and nothing changes, where the owners do not admit it, or its owner
+    // has no group or no room in it.
+    fn place(&mut self, owners: Owners, entry: &AttachedRow) -> Option<()>
+        ensures decides { Decides (is_some result) (IsOwned owners entry.now × HasRoom self.old entry.now.owner) }
+        ensures after { Adds (is_some result) entry.now.owner entry.now.row self.old self.new }
     {
-        match self.each.get_mut(owner as usize) {
-            Some(group) => group.push(row),
-            None => false,
+        if !owners.admit(entry) {
+            return None;
         }
+        self.each
+            .get_mut(usize::from(entry.owner))?
+            .try_push(entry.row)
+            .ok()
     }
 
-    // The same for one of `owners` owners and a lawful row; false for any other, and nothing changes.
-    fn place(&mut self, owners: usize, clocks: u8, parameters: u8, entry: &AttachedRow) -> bool
-        ensures value { result ≡ (is_attached owners clocks parameters entry.now && (nat_lt entry.now.owner (vec_len self.old.each) && nat_lt (length (group_at self.old entry.now.owner)) 8)) }
-        ensures after { Adds result entry.now.owner entry.now.row self.old self.new }
-    {
-        (entry.owner as usize) < owners
-            && entry.row.is_lawful(clocks, parameters)
-            && self.add(entry.owner, entry.row)
-    }
-
-    // The rows of the list in the groups of their owners, of whom there are `owners`; none where a row has another owner or
-    // is not lawful, or an owner has too many. The groups are to have no rows before.
-    pub(crate) fn filled(
-        mut self,
-        owners: usize,
-        clocks: u8,
-        parameters: u8,
-        entries: &[AttachedRow],
-    ) -> Option<Groups>
-        ensures sorts { Blank owners self → Sorts owners clocks parameters entries.now result }
+    // The rows of the list in the groups of their owners; none where the owners do not admit one, or an owner has too many.
+    pub(crate) fn filled(mut self, owners: Owners, entries: &[AttachedRow]) -> Option<Groups>
+        requires { Blank owners.count self }
+        ensures { Sorts owners entries.now result }
     {
         for entry in entries {
-            if !self.place(owners, clocks, parameters, entry) {
-                return None;
-            }
+            self.place(owners, entry)?;
         }
         Some(self)
     }
 
     // The largest number of rows in a group.
     pub(crate) fn most(&self) -> u8
-        ensures value { result ≡ largest (λ q. length (group_at self.now q)) (vec_len self.now.each) }
+        ensures bound { All (λ g. length g.items ≤ result) self.now.each.items }
+        ensures attained { (result ≡ 0) ⊎ Any (λ g. length g.items ≡ result) self.now.each.items }
     {
-        let mut most = 0;
-        for group in self.each.iter() {
-            most = group.count().max(most);
-        }
-        most
-    }
-
-    fn get(&self, owner: u16) -> Option<&Group>
-        ensures value { option_map (λ g. g.now) result ≡ slice_get self.now.each.items owner }
-    {
-        self.each.get(owner as usize)
+        self.each
+            .iter()
+            .map(|group| group.len() as u8)
+            .max()
+            .unwrap_or(0)
     }
 
     pub(crate) fn count(&self, owner: u16) -> u8
         ensures value { result ≡ length (group_at self.now owner) }
     {
-        match self.get(owner) {
-            Some(group) => group.count(),
-            None => 0,
-        }
+        self.each
+            .get(usize::from(owner))
+            .map_or(0, |group| group.len() as u8)
     }
 
     pub(crate) fn row(&self, owner: u16, k: u8) -> Option<Row>
         ensures value { result ≡ slice_get (group_at self.now owner) k }
     {
-        match self.get(owner) {
-            Some(group) => group.row(k),
-            None => None,
-        }
+        self.each
+            .get(usize::from(owner))?
+            .get(usize::from(k))
+            .copied()
     }
 }

@@ -4,13 +4,9 @@
 mod actions;
 mod description;
 mod flat;
-mod group;
 mod groups;
 mod index;
-mod indexing;
 mod laws;
-mod lookup;
-mod model;
 mod room;
 
 pub use description::{AttachedRow, Description, Location};

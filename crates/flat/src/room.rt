@@ -1,16 +1,37 @@
-ghost use Rattle.std.specs.Prelude.{◌≡◌, ℕ, length, vec_len};
-ghost use Rattle.flat.specs.Groups.{group_at};
+ghost use Rattle.std.specs.Prelude.{◌≡◌, IfOk};
 
-use crate::group::Groups;
+use crate::groups::Groups;
+use models::{MAX_LOCATIONS, MAX_SLOTS};
+use std::alloc::{AllocError, Global};
+use std::marker::Model;
 
 /// The memory that one flat model needs, whatever its lists: space for the rows of every location and every edge that there
-/// may be.
+/// may be. It has no rows in it.
 #[derive(Drop)]
 pub struct Room {
     pub(crate) invariants: Groups,
     pub(crate) guards: Groups,
-    ghost locations: { vec_len invariants.each ≡ 64 },
-    ghost slots: { vec_len guards.each ≡ 512 },
-    ghost no_invariants: { (q : ℕ) → length (group_at invariants q) ≡ 0 },
-    ghost no_guards: { (k : ℕ) → length (group_at guards k) ≡ 0 },
+}
+
+/// A room is seen as the numbers of locations and of edges that it has space for.
+impl Model for Room {
+    ghost use Rattle.std.specs.Prelude.{ℕ, vec_len};
+    ghost use Rattle.flat.specs.Groups.{Blank};
+
+    ghost Value = { ℕ × ℕ };
+
+    ghost view = { λ r. (vec_len r.invariants.each, vec_len r.guards.each) };
+
+    ghost invariant = { λ r. Blank 64 r.invariants × Blank 512 r.guards };
+}
+
+impl Room {
+    /// Takes the memory. Nothing else in the making of a flat model can fail.
+    pub fn new(heap: Global) -> Result<Room, AllocError>
+        ensures made { IfOk result (λ room. room ≡ (64, 512)) }
+    {
+        let invariants = Groups::empty(heap, usize::from(MAX_LOCATIONS))?;
+        let guards = Groups::empty(heap, usize::from(MAX_SLOTS))?;
+        Ok(Room { invariants, guards })
+    }
 }

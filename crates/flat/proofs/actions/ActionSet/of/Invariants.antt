@@ -1,6 +1,6 @@
 use Rattle.std.proofs.Common.{◌≡◌, ℕ, false, get_or, take}
 use Rattle.flat.specs.Lists.{uses_action}
-use Rattle.flat.proofs.index.ActionSet.of.Given as goal
+use Rattle.flat.proofs.actions.ActionSet.of.Given as goal
 
 -- the actions of the edges so far
 abbrev pub invariant-loop-edge : goal.invariant-loop-edge

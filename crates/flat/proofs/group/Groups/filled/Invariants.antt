@@ -1,7 +1,0 @@
-use Rattle.flat.specs.Groups.{Blank}
-use Rattle.flat.proofs.Placing.{Placed}
-use Rattle.flat.proofs.group.Groups.filled.Given as goal
-
--- from groups without rows, the entries so far are in their groups
-abbrev pub invariant-loop-entry : goal.invariant-loop-entry
-invariant-loop-entry l = Blank l.owners l.initial.self → Placed l.owners l.clocks l.parameters l.entries l.entry-index l.self
