@@ -5,7 +5,7 @@ use rows::Row;
 use std::alloc::{AllocError, Global};
 
 /// The owners that there are, and the numbers that their rows have to be lawful for.
-#[derive(Clone, Copy)]
+#[derive(Clone, Copy, Debug)]
 pub(crate) struct Owners {
     count: usize,
     clocks: u8,
@@ -36,7 +36,7 @@ impl Owners {
 }
 
 /// The rows of a list by their owner: those of owner q, in list order, are in group q.
-#[derive(Drop)]
+#[derive(Debug, Drop)]
 pub(crate) struct Groups {
     each: Vec<ArrayVec<Row, MAX_ROWS>>,
 }
