@@ -71,9 +71,9 @@ impl Groups {
     }
 
     // The rows of the list in the groups of their owners; none where the owners do not admit one, or an owner has too many.
+    // The groups are to have no rows before.
     pub(crate) fn filled(mut self, owners: Owners, entries: &[AttachedRow]) -> Option<Groups>
-        requires { Blank owners.count self }
-        ensures { Sorts owners entries.now result }
+        ensures sorts { Blank owners.count self → Sorts owners entries.now result }
     {
         for entry in entries {
             self.place(owners, entry)?;
