@@ -12,7 +12,7 @@ use Rattle.flat.specs.declared.groups.Groups.{Groups}
 use Rattle.flat.specs.declared.groups.Owners.{Owners}
 use Rattle.flat.specs.Lists.{rows_of, most_rows, uses_action, shape_of, table_of}
 use Rattle.flat.specs.WellFormed.{WellFormed}
-use Rattle.flat.specs.Groups.{Sorts, owners_in}
+use Rattle.flat.specs.Groups.{Sorts, owners_in, Blank}
 use Rattle.flat.specs.Indexes.{AnswersAs, Indexes}
 use Rattle.flat.specs.ListsLemmas.{largest_bound}
 use Rattle.flat.specs.WellFormedLemmas.{well_formed_decides, not_well_formed, flat_table_described, flat_table_shut, few_of}
@@ -29,9 +29,12 @@ most_grouped o es gs most (can, grouped) bound attained =
       | inr a ↦ omega (arith, low, few_of o.count o.clocks o.parameters a.0 es can.owned, ap length (grouped.each a.0), a.4, ap (λ g. length g.items) (a.3), ap (λ g. length g.items) (get_or_default (vec_items gs.each) a.0 a.1 (record { items = [] }) a.2))
     ]
 
--- a list and its owners that are known under other names
-pub sorted : (o p : Owners) (es fs : List AttachedRow) (r : Option Groups) → o ≡ p → es ≡ fs → Sorts o es r → Sorts p fs r
-sorted o p es fs r e f h = subst (λ x. Sorts x fs r) e (subst (λ xs. Sorts o xs r) f h)
+-- groups without rows sort a list that is known under other names
+pub sorted : (o p : Owners) (es fs : List AttachedRow) (n : ℕ) (gs : Groups) (r : Option Groups) → o ≡ p → es ≡ fs → Blank n gs → p.count ≤ n → (Blank o.count gs → Sorts o es r) → Sorts p fs r
+sorted o p es fs n gs r e f b l h =
+    let wide = b.wide in
+    let blank : Blank p.count gs = record { wide = omega arith; each = b.each } in
+    subst (λ x. Sorts x fs r) e (subst (λ xs. Sorts o xs r) f (h (subst (λ x. Blank x.count gs) (sym e) blank)))
 
 module _ (d : Description) where
   -- lists that are not well-formed have no index

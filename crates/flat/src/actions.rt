@@ -4,7 +4,7 @@ ghost use Rattle.flat.specs.Lists.{uses_action};
 use models::{ACTIONS, Edge, LARGEST_ACTION};
 
 /// A set of actions: place x tells whether action x is in it.
-#[derive(Clone, Copy)]
+#[derive(Clone, Copy, Debug)]
 pub(crate) struct ActionSet {
     members: [bool; ACTIONS],
 }

@@ -16,7 +16,7 @@ pub struct AttachedRow {
 
 /// What a flat model stands on: three numbers, and four lists that keep their order. The rows of one owner need not stand
 /// together.
-#[derive(Drop)]
+#[derive(Debug, PartialEq, Eq, Drop)]
 pub struct Description {
     pub clocks: u8,
     pub parameters: u8,

@@ -14,7 +14,7 @@ use rows::Row;
 use std::marker::Model;
 
 /// A model made from four lists. If they are not well-formed, it answers as the shut model.
-#[derive(Drop)]
+#[derive(Debug, Drop)]
 pub struct Flat {
     lists: Description,
     index: Option<Index>,

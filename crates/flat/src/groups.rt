@@ -5,7 +5,7 @@ use rows::Row;
 use std::alloc::{AllocError, Global};
 
 /// The owners that there are, and the numbers that their rows have to be lawful for.
-#[derive(Clone, Copy)]
+#[derive(Clone, Copy, Debug)]
 pub(crate) struct Owners {
     count: usize,
     clocks: u8,
@@ -36,7 +36,7 @@ impl Owners {
 }
 
 /// The rows of a list by their owner: those of owner q, in list order, are in group q.
-#[derive(Drop)]
+#[derive(Debug, Drop)]
 pub(crate) struct Groups {
     each: Vec<ArrayVec<Row, MAX_ROWS>>,
 }
@@ -71,9 +71,9 @@ impl Groups {
     }
 
     // The rows of the list in the groups of their owners; none where the owners do not admit one, or an owner has too many.
+    // The groups are to have no rows before.
     pub(crate) fn filled(mut self, owners: Owners, entries: &[AttachedRow]) -> Option<Groups>
-        requires { Blank owners.count self }
-        ensures { Sorts owners entries.now result }
+        ensures sorts { Blank owners.count self → Sorts owners entries.now result }
     {
         for entry in entries {
             self.place(owners, entry)?;

@@ -8,7 +8,7 @@ use crate::room::Room;
 use models::{Edge, MAX_LOCATIONS, MAX_SLOTS, Shape};
 
 /// What well-formed lists say, so that no answer needs a walk over a list.
-#[derive(Drop)]
+#[derive(Debug, Drop)]
 pub(crate) struct Index {
     pub(crate) shape: Shape,
     pub(crate) invariants: Groups,

@@ -8,7 +8,7 @@ use std::marker::Model;
 
 /// The memory that one flat model needs, whatever its lists: space for the rows of every location and every edge that there
 /// may be. It has no rows in it.
-#[derive(Drop)]
+#[derive(Debug, Drop)]
 pub struct Room {
     pub(crate) invariants: Groups,
     pub(crate) guards: Groups,

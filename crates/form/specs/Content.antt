@@ -1,5 +1,6 @@
 -- What a model text says, and the text that says it.
-use Rattle.std.specs.Prelude.{ℕ, suc, ◌+◌, ◌*◌, Bool, true, false, List, [], ◌∷◌, ◌++◌, map, pos, codes}
+use Rattle.std.specs.Prelude.{ℕ, ◌+◌, ◌*◌, Bool, true, false, List, [], ◌∷◌, ◌++◌, map, pos, codes}
+use Rattle.std.specs.List.{enumerate_from}
 use Rattle.models.specs.declared.edge.Edge.{Edge}
 use Rattle.flat.specs.declared.description.Location.{Location}
 use Rattle.flat.specs.declared.description.AttachedRow.{AttachedRow}
@@ -59,23 +60,22 @@ row_line e = value_line (pos e.owner ∷ pos e.row.i ∷ pos e.row.j ∷ pos (bi
 abbrev pub edge_line : ℕ → Edge → Line
 edge_line k e = value_line (pos k ∷ pos e.source ∷ pos e.target ∷ pos e.action ∷ pos (bits e.resets.members) ∷ [])
 
--- a line for each, where they are numbered from k
-abbrev pub numbered : {X : Type 0} → (ℕ → X → Line) → ℕ → List X → List Line
-numbered line k [] = []
-numbered line k (x ∷ xs) = line k x ∷ numbered line (suc k) xs
+-- a line for each, where they are numbered from 0
+abbrev pub numbered : {X : Type 0} → (ℕ → X → Line) → List X → List Line
+numbered line xs = map (λ p. line p.0 p.1) (enumerate_from 0 xs)
 
 -- the lines of the first table; those up to the end of the second, the third, the fourth
 abbrev pub heading_lines : Heading → List Line
 heading_lines h = heading_names ∷ heading_line h ∷ []
 
 abbrev pub to_locations : Content → List Line
-to_locations c = heading_lines c.heading ++ location_names ∷ numbered location_line 0 c.lists.locations
+to_locations c = heading_lines c.heading ++ location_names ∷ numbered location_line c.lists.locations
 
 abbrev pub to_invariants : Content → List Line
 to_invariants c = to_locations c ++ invariant_names ∷ map row_line c.lists.invariants
 
 abbrev pub to_edges : Content → List Line
-to_edges c = to_invariants c ++ edge_names ∷ numbered edge_line 0 c.lists.edges
+to_edges c = to_invariants c ++ edge_names ∷ numbered edge_line c.lists.edges
 
 -- all lines: five tables, each a line of names and then lines of values
 abbrev pub lines_of : Content → List Line

@@ -1,6 +1,5 @@
 -- Which content a model text may have: the form of model texts.
-use Rattle.std.specs.Prelude.{◌≡◌, ℕ, ◌≤◌, List, [], ◌∷◌, length}
-use Rattle.std.specs.List.{AllByRecursion}
+use Rattle.std.specs.Prelude.{◌≡◌, ℕ, ◌≤◌, All, AllPairs, List, length}
 use Rattle.models.specs.declared.shape.Shape.{Shape}
 use Rattle.models.specs.declared.edge.Edge.{Edge}
 use Rattle.models.specs.Tables.{ShapeLimits, EdgeLimits}
@@ -8,7 +7,7 @@ use Rattle.flat.specs.declared.description.AttachedRow.{AttachedRow}
 use Rattle.flat.specs.Lists.{rows_of}
 use Rattle.flat.specs.WellFormed.{Attached}
 use Rattle.form.specs.declared.progress.Heading.{Heading}
-use Rattle.form.specs.Content.{Lists, Content, text_of}
+use Rattle.form.specs.Content.{Content, text_of}
 
 -- the heading's numbers, of a model that has no edges and no rows yet
 abbrev pub shape_of : Heading → Shape
@@ -16,21 +15,20 @@ shape_of h = record { clocks = h.clocks; parameters = h.parameters; locations = 
 
 -- no row has a smaller owner than a row before it
 abbrev pub Rising : List AttachedRow → Type 0
-Rising [] = Unit {0}
-Rising (e ∷ es) = AllByRecursion (λ x. e.owner ≤ x.owner) es × Rising es
+Rising es = AllPairs (λ e x. e.owner ≤ x.owner) es
 
 -- the rows of a table where there are so many owners
 pub record RowsLimits (owners : ℕ) (h : Heading) (es : List AttachedRow) : Type 0 where
-  pub attached : AllByRecursion (Attached owners h.clocks h.parameters) es
-  pub whole : AllByRecursion (λ e. length e.row.t ≡ 7) es
+  pub attached : All (Attached owners h.clocks h.parameters) es
+  pub whole : All (λ e. length e.row.t ≡ 7) es
   pub rising : Rising es
   pub few : (q : ℕ) → length (rows_of q es) ≤ 8
 
 -- the edges of a table
 pub record EdgesLimits (h : Heading) (es : List Edge) : Type 0 where
   pub few : length es ≤ 512
-  pub admitted : AllByRecursion (EdgeLimits (shape_of h)) es
-  pub whole : AllByRecursion (λ e. length e.resets.members ≡ 6) es
+  pub admitted : All (EdgeLimits (shape_of h)) es
+  pub whole : All (λ e. length e.resets.members ≡ 6) es
 
 -- the limits of models hold in the content, which may lack locations
 pub record Within (c : Content) : Type 0 where

@@ -1,5 +1,5 @@
 -- How a text is read line by line, for definitions that have to decide.
-use Rattle.std.specs.Prelude.{ℕ, zero, suc, ◌+◌, ◌/◌, ◌%◌, Bool, true, false, cond, not, ◌&&◌, ◌||◌, List, [], ◌∷◌, ◌++◌, map, length, drop, ℤ, pos, negsuc, Some, None, Option, ◌==◌, nat_le, nat_lt, slice_index_or}
+use Rattle.std.specs.Prelude.{ℕ, zero, suc, ◌/◌, ◌%◌, Bool, true, false, cond, ◌&&◌, List, [], ◌∷◌, ◌++◌, length, drop, ℤ, pos, negsuc, Some, None, Option, option_and_then, option_map, ◌==◌, nat_le, nat_lt, slice_index_or}
 use Rattle.std.specs.Str.{bytes_eq}
 use Rattle.models.specs.declared.edge.Edge.{Edge}
 use Rattle.models.specs.Tables.{is_within_limits, is_admitted}
@@ -7,7 +7,7 @@ use Rattle.flat.specs.declared.description.Location.{Location}
 use Rattle.flat.specs.declared.description.AttachedRow.{AttachedRow}
 use Rattle.flat.specs.WellFormed.{is_attached}
 use Rattle.lines.specs.Texts.{Line}
-use Rattle.lines.specs.Numerals.{along, reads, at_most}
+use Rattle.lines.specs.Numerals.{reads, at_most}
 use Rattle.form.specs.declared.progress.Stage.{Stage}
 use Rattle.form.specs.declared.progress.Stage.TheVariants.{Empty, Named, Headed, Locations, Invariants, Edges, Guards}
 use Rattle.form.specs.declared.progress.Kind.{Kind}
@@ -38,7 +38,7 @@ natural b (negsuc n) = None
 
 -- 0 or 1
 abbrev pub flag : ℤ → Option Bool
-flag z = along (natural 1 z) (λ n. Some (n == 1))
+flag z = option_map (λ n. n == 1) (natural 1 z)
 
 -- the first n binary places of r, the lowest first
 abbrev pub places : ℕ → ℕ → List Bool
@@ -51,6 +51,10 @@ value_at vs i = slice_index_or vs i (pos 0)
 -- where the values are n
 abbrev pub exactly : {X : Type 0} → ℕ → List ℤ → Option X → Option X
 exactly n vs o = cond (length vs == n) o None
+
+-- `option_and_then` with the value in front of what is done with it
+abbrev pub along : {X Y : Type 0} → Option X → (X → Option Y) → Option Y
+along o f = option_and_then f o
 
 abbrev pub heading_of : List ℤ → Option Heading
 heading_of vs =
@@ -90,18 +94,18 @@ no_rows = record { owner = 0; rows = 0 }
 
 -- a line of names opens a table
 abbrev pub opens : Stage → State → Option State
-opens g s = Some (record { at = record { stage = g; heading = s.at.heading; latest = no_rows }; lists = s.lists })
+opens g s = Some (record s { at = record s.at { stage = g; latest = no_rows } })
 
 abbrev pub with_latest : State → Latest → Progress
-with_latest s p = record { stage = s.at.stage; heading = s.at.heading; latest = p }
+with_latest s p = record s.at { latest = p }
 
 abbrev pub headed : State → List ℤ → Option State
 headed s vs =
     along (heading_of vs) (λ h. cond (is_within_limits (shape_of h))
-    (Some (record { at = record { stage = Headed; heading = h; latest = s.at.latest }; lists = s.lists })) None)
+    (Some (record s { at = record s.at { stage = Headed; heading = h } })) None)
 
 abbrev pub with_location : State → Location → State
-with_location s x = record { at = s.at; lists = record { locations = s.lists.locations ++ x ∷ []; invariants = s.lists.invariants; edges = s.lists.edges; guards = s.lists.guards } }
+with_location s x = record s { lists = record s.lists { locations = s.lists.locations ++ x ∷ [] } }
 
 abbrev pub located : State → List ℤ → Option State
 located s vs =
@@ -113,13 +117,13 @@ abbrev pub attached : ℕ → State → AttachedRow → Option Latest
 attached owners s e = cond (is_attached owners s.at.heading.clocks s.at.heading.parameters e) (counted s.at.latest e.owner) None
 
 abbrev pub with_invariant : State → AttachedRow → Latest → State
-with_invariant s e p = record { at = with_latest s p; lists = record { locations = s.lists.locations; invariants = s.lists.invariants ++ e ∷ []; edges = s.lists.edges; guards = s.lists.guards } }
+with_invariant s e p = record { at = with_latest s p; lists = record s.lists { invariants = s.lists.invariants ++ e ∷ [] } }
 
 abbrev pub bounded : State → List ℤ → Option State
-bounded s vs = along (row_of vs) (λ e. along (attached s.at.heading.locations s e) (λ p. Some (with_invariant s e p)))
+bounded s vs = option_and_then (λ e. option_map (with_invariant s e) (attached s.at.heading.locations s e)) (row_of vs)
 
 abbrev pub with_edge : State → Edge → State
-with_edge s e = record { at = s.at; lists = record { locations = s.lists.locations; invariants = s.lists.invariants; edges = s.lists.edges ++ e ∷ []; guards = s.lists.guards } }
+with_edge s e = record s { lists = record s.lists { edges = s.lists.edges ++ e ∷ [] } }
 
 abbrev pub joined : State → List ℤ → Option State
 joined s vs =
@@ -127,10 +131,10 @@ joined s vs =
     (Some (with_edge s x.1)) None)
 
 abbrev pub with_guard : State → AttachedRow → Latest → State
-with_guard s e p = record { at = with_latest s p; lists = record { locations = s.lists.locations; invariants = s.lists.invariants; edges = s.lists.edges; guards = s.lists.guards ++ e ∷ [] } }
+with_guard s e p = record { at = with_latest s p; lists = record s.lists { guards = s.lists.guards ++ e ∷ [] } }
 
 abbrev pub guarded : State → List ℤ → Option State
-guarded s vs = along (row_of vs) (λ e. along (attached (length s.lists.edges) s e) (λ p. Some (with_guard s e p)))
+guarded s vs = option_and_then (λ e. option_map (with_guard s e) (attached (length s.lists.edges) s e)) (row_of vs)
 
 -- the table of locations may be left once all are there
 abbrev pub leaves_locations : State → Option State
@@ -139,47 +143,16 @@ leaves_locations s = cond (length s.lists.locations == s.at.heading.locations) (
 -- the table that is open and the kind of the line decide what follows
 abbrev pub follows : Stage → Kind → State → Line → Option State
 follows Empty HeadingNames s l = opens Named s
-follows Empty LocationNames s l = None
-follows Empty InvariantNames s l = None
-follows Empty EdgeNames s l = None
-follows Empty GuardNames s l = None
-follows Empty Values s l = None
-follows Named HeadingNames s l = None
-follows Named LocationNames s l = None
-follows Named InvariantNames s l = None
-follows Named EdgeNames s l = None
-follows Named GuardNames s l = None
-follows Named Values s l = along (values_of l) (headed s)
-follows Headed HeadingNames s l = None
+follows Named Values s l = option_and_then (headed s) (values_of l)
 follows Headed LocationNames s l = opens Locations s
-follows Headed InvariantNames s l = None
-follows Headed EdgeNames s l = None
-follows Headed GuardNames s l = None
-follows Headed Values s l = None
-follows Locations HeadingNames s l = None
-follows Locations LocationNames s l = None
+follows Locations Values s l = option_and_then (located s) (values_of l)
 follows Locations InvariantNames s l = leaves_locations s
-follows Locations EdgeNames s l = None
-follows Locations GuardNames s l = None
-follows Locations Values s l = along (values_of l) (located s)
-follows Invariants HeadingNames s l = None
-follows Invariants LocationNames s l = None
-follows Invariants InvariantNames s l = None
+follows Invariants Values s l = option_and_then (bounded s) (values_of l)
 follows Invariants EdgeNames s l = opens Edges s
-follows Invariants GuardNames s l = None
-follows Invariants Values s l = along (values_of l) (bounded s)
-follows Edges HeadingNames s l = None
-follows Edges LocationNames s l = None
-follows Edges InvariantNames s l = None
-follows Edges EdgeNames s l = None
+follows Edges Values s l = option_and_then (joined s) (values_of l)
 follows Edges GuardNames s l = opens Guards s
-follows Edges Values s l = along (values_of l) (joined s)
-follows Guards HeadingNames s l = None
-follows Guards LocationNames s l = None
-follows Guards InvariantNames s l = None
-follows Guards EdgeNames s l = None
-follows Guards GuardNames s l = None
-follows Guards Values s l = along (values_of l) (guarded s)
+follows Guards Values s l = option_and_then (guarded s) (values_of l)
+follows _ _ s l = None
 
 unfoldable pub step : State → Line → Option State
 step s l = follows s.at.stage (kind_of l) s l
@@ -187,7 +160,7 @@ step s l = follows s.at.stage (kind_of l) s l
 -- the state after these lines
 abbrev pub run : State → List Line → Option State
 run s [] = Some s
-run s (l ∷ ls) = along (step s l) (λ t. run t ls)
+run s (l ∷ ls) = option_and_then (λ t. run t ls) (step s l)
 
 -- the state before the first line; a text has its own heading, but any lawful one will do till then
 abbrev pub start : State
@@ -198,10 +171,5 @@ start = record {
 
 -- the text may end here
 abbrev pub is_last : Stage → Bool
-is_last Empty = false
-is_last Named = false
-is_last Headed = false
-is_last Locations = false
-is_last Invariants = false
-is_last Edges = false
 is_last Guards = true
+is_last _ = false

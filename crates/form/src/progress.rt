@@ -1,5 +1,5 @@
 /// How far a text is read: which table is open, or what is due.
-#[derive(Clone, Copy)]
+#[derive(Clone, Copy, Debug, PartialEq, Eq, Hash)]
 pub enum Stage {
     /// Nothing is read.
     Empty,
@@ -18,7 +18,7 @@ pub enum Stage {
 }
 
 /// What a line is: the names of a table, or anything else, which only values can be.
-#[derive(Clone, Copy)]
+#[derive(Clone, Copy, Debug, PartialEq, Eq, Hash)]
 pub enum Kind {
     HeadingNames,
     LocationNames,
@@ -29,7 +29,7 @@ pub enum Kind {
 }
 
 /// The line of values of the first table.
-#[derive(Clone, Copy)]
+#[derive(Clone, Copy, Debug, PartialEq, Eq, Hash)]
 pub struct Heading {
     pub clocks: u8,
     pub parameters: u8,
@@ -39,14 +39,14 @@ pub struct Heading {
 }
 
 /// The owner of the last row of the open table, and how many rows it has so far.
-#[derive(Clone, Copy)]
+#[derive(Clone, Copy, Debug, PartialEq, Eq, Hash)]
 pub struct Latest {
     pub owner: u16,
     pub rows: u8,
 }
 
 /// Where a reader stands in a text, apart from what its lists hold.
-#[derive(Clone, Copy)]
+#[derive(Clone, Copy, Debug, PartialEq, Eq, Hash)]
 pub struct Progress {
     pub stage: Stage,
     pub heading: Heading,

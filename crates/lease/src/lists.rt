@@ -1,10 +1,10 @@
 use flat::{AttachedRow, Description, Flat, Location, Room};
 use models::Edge;
-use rows::{ClockSet, Row};
+use rows::{ClockSet, MAX_CLOCKS, Row};
 use std::alloc::{AllocError, Global};
 
 const NO_CLOCKS: ClockSet = ClockSet {
-    members: [false; 6],
+    members: [false; MAX_CLOCKS],
 };
 
 const CLOCK_1: ClockSet = ClockSet {

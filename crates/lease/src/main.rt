@@ -3,44 +3,24 @@
 
 mod lists;
 mod sentences;
+mod standing;
 
 use anyhow::anyhow;
 use report::Formula;
-use rows::{Row, Valuation};
+use rows::Valuation;
 use sentences::report_model;
-
-// An editor renews within p1, and a silent editor keeps the drawing for p2: p2 has to be the longer.
-const TERM: Row = Row {
-    i: 0,
-    j: 0,
-    strict: true,
-    t: [0, -1, 1, 0, 0, 0, 0],
-};
-
-const PARAMETERS: u8 = 2;
+use standing::{Standing, TERM};
 
 // One unit of time is a second, so a value of 1 is a millisecond.
 const SCALE: u32 = 1000;
 
-// How the setting stands to the term: the end of a sentence.
-fn standing(valuation: &Valuation) -> &'static str {
-    if !valuation.is_in_range(PARAMETERS) {
-        "is outside the limits"
-    } else if TERM.is_met(valuation) {
-        "meets the term"
-    } else {
-        "does not meet the term"
-    }
-}
-
-fn report_setting(rt: &HostRuntime, renew: u32, keep: u32) -> anyhow::Result<()> {
+fn report_setting(rt: &impl Print, renew: u32, keep: u32) -> anyhow::Result<()> {
     let values = [renew, keep];
-    let valuation = Valuation {
+    let standing = Standing::of(&Valuation {
         scale: SCALE,
         values: &values,
-    };
-    let end = standing(&valuation);
-    println!(rt; "At scale {SCALE}, the setting p1 = {renew}, p2 = {keep} {end}.")?;
+    });
+    println!(rt; "At scale {SCALE}, the setting p1 = {renew}, p2 = {keep} {standing}.")?;
     Ok(())
 }
 

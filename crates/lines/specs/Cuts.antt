@@ -1,11 +1,7 @@
 -- Where a byte first stands.
-use Rattle.std.specs.Prelude.{◌≡◌, ℕ, false, List, ◌∷◌, ◌++◌, Some, None, Option, ◌==◌}
+use Rattle.std.specs.Prelude.{◌≡◌, ℕ, List, ◌∷◌, ◌++◌, Some, None, Option}
 use Rattle.std.specs.Borrow.{Bor}
-use Rattle.std.specs.List.{AllByRecursion}
-
--- the byte stands nowhere in these
-abbrev pub Without : ℕ → List ℕ → Type 0
-Without b xs = AllByRecursion (λ c. (c == b) ≡ false) xs
+use Rattle.lines.specs.Texts.{Without}
 
 -- the bytes are a front without b, then b, then the rest
 pub record Cut (b : ℕ) (xs front rest : List ℕ) : Type 0 where

@@ -1,13 +1,13 @@
 -- Where runs stay, and that a table without bad locations avoids them.
-use Rattle.std.specs.Bool.{MatchBool}
-use Rattle.std.specs.List.{range_with_len, AllWithin, HoldsAt}
+use Rattle.std.specs.List.{list_any, range_with_len}
 use Rattle.std.proofs.lemmas.List.FromFn.{length-range_with_len, get_or-range_with_len}
-use Rattle.std.proofs.Common.{length, get_or, ◌∙◌, subst, arith, ◌≡◌, ℕ, ◌<◌, Bool, true, false, Decides, refl, inl, inr}
+use Rattle.std.proofs.Common.{length, get_or, sym, ap, ◌∙◌, subst, arith, ◌≡◌, ℕ, ◌<◌, Bool, true, false, Decides, refl, inl, inr}
 use Rattle.std.proofs.lemmas.Bool.{both_ways, cases_lt}
-use Rattle.std.proofs.lemmas.Bool.Decides.{Decides-like}
+use Rattle.std.proofs.lemmas.Bool.Decides.{Decides-at, Decides-like, Decides-by_or}
 use Rattle.std.proofs.lemmas.List.Elements.{All-nil}
 use Rattle.rows.specs.Points.{Setting, Meets}
 use Rattle.rows.specs.Moves.{at}
+use Rattle.models.specs.declared.shape.Shape.{Shape}
 use Rattle.models.specs.Tables.{Table, Limits}
 use Rattle.models.specs.Runs.{State, Run, begins, waits, steps, AvoidsBad, HasBad}
 use Rattle.models.specs.Laws.{RunLaws}
@@ -29,30 +29,27 @@ run_laws = record {
   shut = λ s h. h (record { location = 0; clocks = λ _. 0 }) (begins (All-nil _)) refl;
 }
 
-place : (n k : ℕ) → k < n → get_or (range_with_len 0 n) k 0 ≡ k
-place n k l = get_or-range_with_len 0 n k 0 l ∙ omega arith
-
--- what a search through the numbers below n has found
-pub any_below : (f : ℕ → Bool) (n : ℕ) (r : Bool)
-    → MatchBool r ((k : ℕ) × (k < length (range_with_len 0 n)) × HoldsAt (λ q. f q ≡ true) (range_with_len 0 n) k) (AllWithin (λ q. f q ≡ false) (range_with_len 0 n) 0 (length (range_with_len 0 n)))
-    → Decides r ((q : ℕ) × (q < n) × (f q ≡ true))
-any_below f n true h =
-    let l = length-range_with_len 0 n in
-    let e : f h.0 ≡ true = subst (λ q. f q ≡ true) (place n h.0 (omega (arith, l, h.1))) (h.2 0) in
-    (λ _. (h.0, omega (arith, l, h.1), e), λ _. refl)
-any_below f n false h =
-    let l = length-range_with_len 0 n in (
-      λ e. absurd (both_ways false refl e),
-      λ x. absurd (both_ways (f x.0) (subst (λ q. f q ≡ false) (place n x.0 x.1) (h x.0 0 (omega arith) (omega (arith, l, x.1)))) x.2),
-    )
+place : (n k d : ℕ) → k < n → get_or (range_with_len 0 n) k d ≡ k
+place n k d l = get_or-range_with_len 0 n k d l ∙ omega arith
 
 -- what is bad is one of the table's locations
-pub bad_decides : (M : Table) (b : Bool) → Limits M → Decides b ((q : ℕ) × (q < M.shape.locations) × (M.bad q ≡ true)) → Decides b (HasBad M)
-bad_decides M b h d = Decides-like b (λ x. (x.0, x.2)) (λ x. (x.0, inside x.0 x.1, x.1)) d
+bad_decides : (M : Table) → Limits M → Decides (list_any M.bad (range_with_len 0 M.shape.locations)) (HasBad M)
+bad_decides M h =
+    let n = M.shape.locations in
+    let all = range_with_len 0 n in
+    let l : length all ≡ n = length-range_with_len 0 n in
+    Decides-like (list_any M.bad all)
+    (λ x. (x.0, subst (λ q. M.bad q ≡ true) (place n x.0 0 (omega (arith, l, x.1))) (x.2 0)))
+    (λ x. let i = inside x.0 x.1 in (x.0, omega (arith, l, i), λ d. subst (λ q. M.bad q ≡ true) (sym (place n x.0 d i)) x.1))
+    (Decides-by_or M.bad (λ q. M.bad q ≡ true) (list_any M.bad) (λ q. (λ e. e, λ e. e)) refl (λ _ _. refl) all)
   where
     inside : (q : ℕ) → M.bad q ≡ true → q < M.shape.locations
     inside q e = elim (cases_lt q M.shape.locations) [ inl l ↦ l | inr g ↦ absurd (both_ways (M.bad q) (h.no_bad q g) e) ]
 
+-- the same of what a search through the locations has found
+pub bad_found : (M : Table) (h : Shape) (b : Bool) → Limits M → h ≡ M.shape → b ≡ list_any M.bad (range_with_len 0 h.locations) → Decides b (HasBad M)
+bad_found M h b l e f = Decides-at b _ (f ∙ ap (λ (s : Shape). list_any M.bad (range_with_len 0 s.locations)) e) (bad_decides M l)
+
 -- where none is, no run reaches one
-pub avoids_unless : (M : Table) (b : Bool) → Decides b (HasBad M) → b ≡ false → (s : Setting) → AvoidsBad M s
-avoids_unless M b d e s x r k = both_ways b e (d.1 (x.location, k))
+pub avoids_unless : (M : Table) (h : Shape) (b : Bool) → Limits M → h ≡ M.shape → b ≡ list_any M.bad (range_with_len 0 h.locations) → b ≡ false → (s : Setting) → AvoidsBad M s
+avoids_unless M h b l e f n s x r k = both_ways b n ((bad_found M h b l e f).1 (x.location, k))

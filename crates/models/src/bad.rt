@@ -1,4 +1,5 @@
-ghost use Rattle.std.specs.Prelude.{◌≡◌, ℕ, ◌<◌, true, false, Decides};
+ghost use Rattle.std.specs.Prelude.{◌≡◌, false, Decides};
+ghost use Rattle.std.specs.List.{list_any, range_with_len};
 ghost use Rattle.rows.specs.Points.{Setting};
 ghost use Rattle.models.specs.Runs.{HasBad, AvoidsBad};
 
@@ -6,13 +7,13 @@ use crate::model::TimedModel;
 
 // Whether one of the first locations, so many, is bad.
 fn has_bad_below<M: TimedModel>(model: &M, locations: u8) -> bool
-    ensures decides { Decides result ((q : ℕ) × (q < locations) × ((M.table model.now).bad q ≡ true)) }
+    ensures value { result ≡ list_any (M.table model.now).bad (range_with_len 0 locations) }
 {
     (0..locations).any(|location| model.bad(location))
 }
 
 /// Whether the model has a bad location. If it has none, no run reaches one, at any setting.
-#[tactic(auto, using(crate::proofs::Runs::bad_decides, crate::proofs::Runs::avoids_unless))]
+#[tactic(auto, using(crate::proofs::Runs::bad_found))]
 pub fn has_bad_location<M: TimedModel>(model: &M) -> bool
     ensures decides { Decides result (HasBad (M.table model.now)) }
     ensures law { result ≡ false → (s : Setting) → AvoidsBad (M.table model.now) s }

@@ -1,4 +1,3 @@
-pub mod Asked
 pub mod Points
 pub mod Lawful
 pub mod Clocks
