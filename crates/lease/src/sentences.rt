@@ -46,7 +46,7 @@ fn report_slot<M: TimedModel>(rt: &impl Print, model: &M, slot: u16) -> anyhow::
     report_resets(rt, &edge.resets)
 }
 
-// The locations of any model with their invariants, and its edges with their guards.
+// The locations of any model with their invariants, and its edges with their guards. A model is asked by number.
 pub(crate) fn report_model<M: TimedModel>(rt: &impl Print, model: &M) -> anyhow::Result<()> {
     let shape = model.shape();
     for location in 0..shape.locations {

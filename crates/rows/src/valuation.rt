@@ -52,7 +52,7 @@ impl Valuation<'_> {
         self.values.get(c - 1).copied().unwrap_or(0)
     }
 
-    // t0·k + t1·p1 + … + t6·p6
+    // t0·k + t1·p1 + … + t6·p6. A loop, since the check finds no bound on what a chain sums up of signed numbers.
     pub(crate) fn bound(&self, t: &[i32; 7]) -> i128
         ensures { result ≡ weighted_sum (weight_of self.now.scale self.now.values.now) 0 t.now }
     {
