@@ -8,6 +8,7 @@ use Rattle.std.proofs.lemmas.Bool.{cases_lt, false_from_ne_true, ne_eqb, cond-tr
 use Rattle.std.proofs.lemmas.Bool.Decides.{nat_tests, Decides-and, Decides-by_and, Decides-like, Decides-ltb}
 use Rattle.rows.specs.Lawful.{Lawful, is_lawful}
 use Rattle.rows.proofs.Lawful.{lawful_decides}
+use Rattle.models.specs.declared.shape.Shape.{Shape}
 use Rattle.models.specs.declared.edge.Edge.{Edge}
 use Rattle.models.specs.Tables.{EdgeLimits, Limits, is_admitted}
 use Rattle.models.proofs.Tables.{within_limits_decides, admitted_decides, shut_limits}
@@ -24,20 +25,25 @@ attached_decides n m p e =
     (Decides-and (nat_lt e.owner n) (is_lawful m p e.row) (Decides-ltb e.owner n) (lawful_decides m p e.row))
 
 -- a test of each decides what it tests of each
-each_decides : {X : Type 0} (p : X → Bool) (P : X → Type 0) → ((x : X) → Decides (p x) (P x)) → (xs : List X) → Decides (list_all p xs) (All P xs)
+pub each_decides : {X : Type 0} (p : X → Bool) (P : X → Type 0) → ((x : X) → Decides (p x) (P x)) → (xs : List X) → Decides (list_all p xs) (All P xs)
 each_decides p P h = Decides-by_and p P (list_all p) h refl (λ _ _. refl)
+
+pub all_attached_decides : (n m p : ℕ) (es : List AttachedRow) → Decides (list_all (is_attached n m p) es) (All (Attached n m p) es)
+all_attached_decides n m p = each_decides (is_attached n m p) (Attached n m p) (attached_decides n m p)
+
+pub all_admitted_decides : (h : Shape) (es : List Edge) → Decides (list_all (is_admitted h) es) (All (EdgeLimits h) es)
+all_admitted_decides h = each_decides (is_admitted h) (EdgeLimits h) (admitted_decides h)
 
 module _ (d : Description) where
   pub well_formed_decides : Decides (is_well_formed d) (WellFormed d)
   well_formed_decides =
       let h = shape_of d in
-      let rows_decide = λ (n : ℕ) (es : List AttachedRow). each_decides (is_attached n d.clocks d.parameters) (Attached n d.clocks d.parameters) (attached_decides n d.clocks d.parameters) es in
       Decides-like (is_well_formed d)
       (λ s. record { numbers = s.0; edges = s.1.0; invariants = s.1.1.0; guards = s.1.1.1 })
       (λ s. (s.numbers, (s.edges, (s.invariants, s.guards))))
       (Decides-and _ _ (within_limits_decides h)
-      (Decides-and _ _ (each_decides (is_admitted h) (EdgeLimits h) (admitted_decides h) (vec_items d.edges))
-      (Decides-and _ _ (rows_decide (length (vec_items d.locations)) (vec_items d.invariants)) (rows_decide (length (vec_items d.edges)) (vec_items d.guards)))))
+      (Decides-and _ _ (all_admitted_decides h (vec_items d.edges))
+      (Decides-and _ _ (all_attached_decides (length (vec_items d.locations)) d.clocks d.parameters (vec_items d.invariants)) (all_attached_decides (length (vec_items d.edges)) d.clocks d.parameters (vec_items d.guards)))))
 
   -- lists of which something is not so are not well-formed
   pub not_well_formed : (WellFormed d → ⊥) → is_well_formed d ≡ false

@@ -81,7 +81,7 @@ impl Groups {
         Some(self)
     }
 
-    // The largest number of rows in a group.
+    // The largest number of rows in a group. There are at most 8, so the casts here and below keep the number.
     pub(crate) fn most(&self) -> u8
         ensures bound { All (λ g. length g.items ≤ result) self.now.each.items }
         ensures attained { (result ≡ 0) ⊎ Any (λ g. length g.items ≡ result) self.now.each.items }

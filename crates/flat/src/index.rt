@@ -31,6 +31,7 @@ impl Index {
         let Room { invariants, guards } = room;
         let invariants = invariants.filled(Owners::new(locations, lists), &lists.invariants)?;
         let guards = guards.filled(Owners::new(slots, lists), &lists.guards)?;
+        // The counts are within their limits, so the casts keep them; `try_from` would add an error that cannot come.
         let shape = Shape {
             clocks: lists.clocks,
             parameters: lists.parameters,
