@@ -1,13 +1,12 @@
 -- Where runs stay, and that a table without bad locations avoids them.
 use Rattle.std.specs.List.{list_any, range_with_len}
 use Rattle.std.proofs.lemmas.List.FromFn.{length-range_with_len, get_or-range_with_len}
-use Rattle.std.proofs.Common.{length, get_or, sym, ap, ◌∙◌, subst, arith, ◌≡◌, ℕ, ◌<◌, Bool, true, false, Decides, refl, inl, inr}
+use Rattle.std.proofs.Common.{length, get_or, sym, ◌∙◌, subst, arith, ◌≡◌, ℕ, ◌<◌, true, false, Decides, refl, inl, inr}
 use Rattle.std.proofs.lemmas.Bool.{both_ways, cases_lt}
-use Rattle.std.proofs.lemmas.Bool.Decides.{Decides-at, Decides-like, Decides-by_or}
+use Rattle.std.proofs.lemmas.Bool.Decides.{Decides-like, Decides-by_or}
 use Rattle.std.proofs.lemmas.List.Elements.{All-nil}
 use Rattle.rows.specs.Points.{Setting, Meets}
 use Rattle.rows.specs.Moves.{at}
-use Rattle.models.specs.declared.shape.Shape.{Shape}
 use Rattle.models.specs.Tables.{Table, Limits}
 use Rattle.models.specs.Runs.{State, Run, begins, waits, steps, AvoidsBad, HasBad}
 use Rattle.models.specs.Laws.{RunLaws}
@@ -33,7 +32,7 @@ place : (n k d : ℕ) → k < n → get_or (range_with_len 0 n) k d ≡ k
 place n k d l = get_or-range_with_len 0 n k d l ∙ omega arith
 
 -- what is bad is one of the table's locations
-bad_decides : (M : Table) → Limits M → Decides (list_any M.bad (range_with_len 0 M.shape.locations)) (HasBad M)
+pub bad_decides : (M : Table) → Limits M → Decides (list_any M.bad (range_with_len 0 M.shape.locations)) (HasBad M)
 bad_decides M h =
     let n = M.shape.locations in
     let all = range_with_len 0 n in
@@ -46,10 +45,6 @@ bad_decides M h =
     inside : (q : ℕ) → M.bad q ≡ true → q < M.shape.locations
     inside q e = elim (cases_lt q M.shape.locations) [ inl l ↦ l | inr g ↦ absurd (both_ways (M.bad q) (h.no_bad q g) e) ]
 
--- the same of what a search through the locations has found
-pub bad_found : (M : Table) (h : Shape) (b : Bool) → Limits M → h ≡ M.shape → b ≡ list_any M.bad (range_with_len 0 h.locations) → Decides b (HasBad M)
-bad_found M h b l e f = Decides-at b _ (f ∙ ap (λ (s : Shape). list_any M.bad (range_with_len 0 s.locations)) e) (bad_decides M l)
-
 -- where none is, no run reaches one
-pub avoids_unless : (M : Table) (h : Shape) (b : Bool) → Limits M → h ≡ M.shape → b ≡ list_any M.bad (range_with_len 0 h.locations) → b ≡ false → (s : Setting) → AvoidsBad M s
-avoids_unless M h b l e f n s x r k = both_ways b n ((bad_found M h b l e f).1 (x.location, k))
+pub avoids_unless : (M : Table) → Limits M → list_any M.bad (range_with_len 0 M.shape.locations) ≡ false → (s : Setting) → AvoidsBad M s
+avoids_unless M l n s x r k = both_ways (list_any M.bad (range_with_len 0 M.shape.locations)) n ((bad_decides M l).1 (x.location, k))

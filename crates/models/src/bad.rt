@@ -13,7 +13,7 @@ fn has_bad_below<M: TimedModel>(model: &M, locations: u8) -> bool
 }
 
 /// Whether the model has a bad location. If it has none, no run reaches one, at any setting.
-#[tactic(auto, using(crate::proofs::Runs::bad_found))]
+#[tactic(auto, using(crate::proofs::Runs::bad_decides, crate::proofs::Runs::avoids_unless))]
 pub fn has_bad_location<M: TimedModel>(model: &M) -> bool
     ensures decides { Decides result (HasBad (M.table model.now)) }
     ensures law { result ≡ false → (s : Setting) → AvoidsBad (M.table model.now) s }
