@@ -5,7 +5,7 @@ use Rattle.std.specs.List.{list_all}
 use Rattle.std.proofs.lemmas.List.{get_or-drop, get_or_past}
 use Rattle.std.proofs.lemmas.List.Elements.{All-from_get_or}
 use Rattle.std.proofs.lemmas.Int.{ints}
-use Rattle.std.proofs.lemmas.Bool.{cases_lt}
+use Rattle.std.proofs.lemmas.Bool.{and_parts, cases_lt}
 use Rattle.std.proofs.lemmas.Bool.Decides.{nat_tests, Decides-and, Decides-like, Decides-by_and}
 use Rattle.rows.specs.declared.row.Row.{Row}
 use Rattle.rows.specs.Lawful.{WithinLimit, LawfulMarks, LawfulBound, Lawful, is_within_limit, is_zero, has_lawful_marks, has_lawful_bound, is_lawful}
@@ -52,6 +52,9 @@ bound_decides n r =
     (Decides-and a b
     (Decides-by_and is_within_limit WithinLimit (list_all is_within_limit) within_limit_decides refl (λ _ _. refl) r.t)
     (Decides-by_and is_zero (λ z. z ≡ pos 0) (list_all is_zero) zero_decides refl (λ _ _. refl) rest))
+
+pub small_where_bound : (n : ℕ) (r : Row) → LawfulBound n r → list_all is_within_limit r.t ≡ true
+small_where_bound n r h = (and_parts (list_all is_within_limit r.t) (list_all is_zero (drop (1 + n) r.t)) ((bound_decides n r).1 h)).0
 
 pub lawful_decides : (m n : ℕ) (r : Row) → Decides (is_lawful m n r) (Lawful m n r)
 lawful_decides m n r =

@@ -70,7 +70,7 @@ impl Row {
             .all(|z| *z == 0)
     }
 
-    #[tactic(auto, using(crate::proofs::Lawful::bound_decides))]
+    #[tactic(auto, using(crate::proofs::Lawful::bound_decides, crate::proofs::Lawful::small_where_bound))]
     fn has_lawful_bound(&self, parameters: u8) -> bool
         ensures decides { Decides result (LawfulBound parameters self.now) }
         ensures value { result ≡ has_lawful_bound parameters self.now }
