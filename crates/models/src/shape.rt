@@ -19,7 +19,8 @@ pub const MAX_ROWS: usize = 8;
 /// The largest action. Action 0 is internal.
 pub const LARGEST_ACTION: u8 = 15;
 
-/// How many actions there are, from 0 to the largest. A constant cannot call `usize::from`.
+/// How many actions there are, from 0 to the largest.
+// A constant cannot call `usize::from`.
 pub const ACTIONS: usize = LARGEST_ACTION as usize + 1;
 
 /// The numbers of a model's table: how many clocks, parameters, locations and slots there are, the first location, and two

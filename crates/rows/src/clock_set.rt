@@ -5,7 +5,8 @@ ghost use Rattle.rows.specs.Moves.{Clocks, marks, has, WithinClocks, is_within_c
 /// The most clocks that a model may have.
 pub const MAX_CLOCKS: usize = 6;
 
-/// A set of clocks: place c − 1 tells whether clock c is in it. Clocks count from 1, so other sets of numbers are other types.
+/// A set of clocks: place c − 1 tells whether clock c is in it.
+// Clocks count from 1, so sets of other numbers are other types.
 #[derive(Clone, Copy, Debug, Default, PartialEq, Eq, Hash)]
 pub struct ClockSet {
     pub members: [bool; MAX_CLOCKS],

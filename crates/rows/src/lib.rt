@@ -7,5 +7,5 @@ mod row;
 mod valuation;
 
 pub use clock_set::{ClockSet, MAX_CLOCKS};
-pub use row::{LARGEST_COEFFICIENT, Row, WAITED};
+pub use row::{COEFFICIENTS, LARGEST_COEFFICIENT, Row, WAITED};
 pub use valuation::{LARGEST_SCALE, LARGEST_VALUE, Valuation};

@@ -8,6 +8,9 @@ ghost use Rattle.rows.specs.Valuations.{Tells, is_ordered, is_met};
 use crate::clock_set::ClockSet;
 use crate::valuation::Valuation;
 
+/// How many coefficients a row has: the scale's, and one for each parameter that there may be.
+pub const COEFFICIENTS: usize = 7;
+
 /// The bound xi − xj ≤ t0·k + t1·p1 + … + t6·p6, or < when strict: k is the scale, p1 to p6 are the parameters.
 ///
 /// Mark 0 is always 0, marks 1 to 6 are the clocks, mark 7 is the time waited.
@@ -16,7 +19,7 @@ pub struct Row {
     pub i: u8,
     pub j: u8,
     pub strict: bool,
-    pub t: [i32; 7],
+    pub t: [i32; COEFFICIENTS],
 }
 
 /// No coefficient of a lawful row is farther from 0.

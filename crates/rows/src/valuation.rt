@@ -1,6 +1,8 @@
 ghost use Rattle.std.specs.Prelude.{◌≡◌, ◌^◌, ◌≤◌, pos, ◌*ℤ◌, Decides, unsigned_abs};
 ghost use Rattle.rows.specs.Points.{weighted_sum};
-ghost use Rattle.rows.specs.Valuations.{ValuesWithinLimit, InRange, Tells, are_within_limit, is_in_range, weight_of, is_ordered, is_met};
+ghost use Rattle.rows.specs.Valuations.{ValuesWithinLimit, InRange, are_within_limit, is_in_range, weight_of};
+
+use crate::row::COEFFICIENTS;
 
 /// A setting in numbers: the scale, and the value of parameter c at place c − 1. A parameter without a value counts as 0.
 #[derive(Clone, Copy, Debug, PartialEq, Eq, Hash)]
@@ -53,7 +55,7 @@ impl Valuation<'_> {
     }
 
     // t0·k + t1·p1 + … + t6·p6. A loop, since the check finds no bound on what a chain sums up of signed numbers.
-    pub(crate) fn bound(&self, t: &[i32; 7]) -> i128
+    pub(crate) fn bound(&self, t: &[i32; COEFFICIENTS]) -> i128
         ensures { result ≡ weighted_sum (weight_of self.now.scale self.now.values.now) 0 t.now }
     {
         let mut sum: i128 = 0;
