@@ -90,12 +90,18 @@ impl Row {
         self.has_lawful_marks(clocks) && self.has_lawful_bound(parameters)
     }
 
-    // The same bound on other marks: it holds at p as this row holds at q, if the settings and the differences are the same.
-    fn with_marks(&self, i: u8, j: u8) -> Row
-        ensures value { result ≡ record { i = i; j = j; strict = self.now.strict; t = self.now.t } }
-        ensures law { (p q : Point) → p.setting ≡ q.setting → p.mark i + q.mark self.now.j ≡ q.mark self.now.i + p.mark j → Holds p result ↔ Holds q self.now }
+    // The same bound on other marks, each replaced by what the function gives for it.
+    fn on_marks<F: Fn(u8) -> u8>(&self, replaced: F) -> Row
+        requires { F.IsAlwaysCallable replaced }
+        ensures i { F.post replaced self.now.i result.i }
+        ensures j { F.post replaced self.now.j result.j }
+        ensures rest { result ≡ record { i = result.i; j = result.j; strict = self.now.strict; t = self.now.t } }
     {
-        Row { i, j, ..*self }
+        Row {
+            i: replaced(self.i),
+            j: replaced(self.j),
+            ..*self
+        }
     }
 
     /// The row that holds at a state exactly when this one holds after the clocks of the set are reset: those clocks are
@@ -104,15 +110,7 @@ impl Row {
         ensures value { result ≡ before_reset resets.now self.now }
         ensures law { SaysBeforeReset resets.now self.now result }
     {
-        self.with_marks(resets.mark_before(self.i), resets.mark_before(self.j))
-    }
-
-    // Mark 0 replaced by the time waited, in both places.
-    fn with_time_waited(&self) -> Row
-        ensures value { result ≡ record { i = mark_after_wait self.now.i; j = mark_after_wait self.now.j; strict = self.now.strict; t = self.now.t } }
-        ensures law { SaysAfterWait self.now result }
-    {
-        self.with_marks(mark_after_wait(self.i), mark_after_wait(self.j))
+        self.on_marks(|mark| resets.mark_before(mark))
     }
 
     /// The row that holds after a wait of x7 exactly when this one, on marks up to 6, held before it: where its marks
@@ -124,7 +122,7 @@ impl Row {
         if self.i == self.j {
             *self
         } else {
-            self.with_time_waited()
+            self.on_marks(mark_after_wait)
         }
     }
 
