@@ -23,21 +23,24 @@ impl Index {
     pub(crate) fn new(room: Room, lists: &Description) -> Option<Index>
         ensures { Indexes lists.now result }
     {
-        let locations = lists.locations.len();
-        let slots = lists.edges.len();
-        if locations > usize::from(MAX_LOCATIONS) || slots > usize::from(MAX_SLOTS) {
-            return None;
-        }
+        let locations = u8::try_from(lists.locations.len())
+            .ok()
+            .filter(|n| *n <= MAX_LOCATIONS)?;
+        let slots = u16::try_from(lists.edges.len())
+            .ok()
+            .filter(|n| *n <= MAX_SLOTS)?;
         let Room { invariants, guards } = room;
-        let invariants = invariants.filled(Owners::new(locations, lists), &lists.invariants)?;
-        let guards = guards.filled(Owners::new(slots, lists), &lists.guards)?;
-        // The counts are within their limits, so the casts keep them; `try_from` would add an error that cannot come.
+        let invariants = invariants.filled(
+            Owners::new(locations.into(), lists),
+            &lists.invariants,
+        )?;
+        let guards = guards.filled(Owners::new(slots.into(), lists), &lists.guards)?;
         let shape = Shape {
             clocks: lists.clocks,
             parameters: lists.parameters,
-            locations: locations as u8,
+            locations,
             first: lists.first,
-            slots: slots as u16,
+            slots,
             invariants: invariants.most(),
             guards: guards.most(),
         };
