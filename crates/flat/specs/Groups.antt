@@ -1,5 +1,5 @@
 -- The rows that groups list, and how a list is sorted into groups: the inside of a flat model.
-use Rattle.std.specs.Prelude.{◌≡◌, ℕ, ◌<◌, ◌≤◌, Bool, cond, ◌&&◌, List, [], ◌∷◌, ◌++◌, length, MatchOption, All, vec_items, vec_len, Option, ◌==◌, slice_index_or}
+use Rattle.std.specs.Prelude.{◌≡◌, ℕ, ◌<◌, ◌≤◌, Bool, cond, ◌&&◌, List, [], ◌∷◌, ◌++◌, map, length, MatchOption, All, vec_items, vec_len, Option, ◌==◌, slice_index_or}
 use Rattle.rows.specs.declared.row.Row.{Row}
 use Rattle.flat.specs.declared.description.AttachedRow.{AttachedRow}
 use Rattle.flat.specs.declared.description.Description.{Description}
@@ -7,6 +7,10 @@ use Rattle.flat.specs.declared.groups.Groups.{Groups}
 use Rattle.flat.specs.declared.groups.Owners.{Owners}
 use Rattle.flat.specs.Lists.{rows_of, most_rows}
 use Rattle.flat.specs.WellFormed.{Attached}
+
+-- the rows of each group
+abbrev pub listed : Groups → List (List Row)
+listed gs = map (λ g. g.items) (vec_items gs.each)
 
 -- the rows of the group of that number; of no group there are none
 abbrev pub group_at : Groups → ℕ → List Row

@@ -42,14 +42,13 @@ pub(crate) struct Groups {
 }
 
 impl Groups {
-    ghost use Rattle.std.specs.Prelude.{◌≡◌, ◌≤◌, ◌⊎◌, length, is_some, IfOk, All, Any, Decides, vec_len};
+    ghost use Rattle.std.specs.Prelude.{◌≡◌, ◌≤◌, ◌⊎◌, [], length, replicate, is_some, IfOk, All, Any, Decides};
     ghost use Rattle.std.specs.List.{slice_get};
-    ghost use Rattle.flat.specs.Groups.{group_at, IsOwned, HasRoom, Blank, Sorts, Adds};
+    ghost use Rattle.flat.specs.Groups.{listed, group_at, IsOwned, HasRoom, Blank, Sorts, Adds};
 
     // `count` groups without rows.
     pub(crate) fn empty(heap: Global, count: usize) -> Result<Groups, AllocError>
-        ensures blank { IfOk result (Blank count) }
-        ensures count { IfOk result (λ gs. vec_len gs.each ≡ count) }
+        ensures made { IfOk result (λ gs. listed gs ≡ replicate count []) }
     {
         let each = vec![in heap; ArrayVec::new(); count]?;
         Ok(Groups { each })

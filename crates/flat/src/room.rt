@@ -1,5 +1,6 @@
-ghost use Rattle.std.specs.Prelude.{◌≡◌, ℕ, IfOk, vec_len};
-ghost use Rattle.flat.specs.Groups.{Blank};
+ghost use Rattle.std.specs.Prelude.{◌≡◌, List, [], replicate, IfOk};
+ghost use Rattle.rows.specs.declared.row.Row.{Row};
+ghost use Rattle.flat.specs.Groups.{listed};
 
 use crate::groups::Groups;
 use models::{MAX_LOCATIONS, MAX_SLOTS};
@@ -14,19 +15,19 @@ pub struct Room {
     pub(crate) guards: Groups,
 }
 
-/// A room is seen as the numbers of locations and of edges that it has space for.
+/// A room is seen as the rows in it: those of each location, and those of each edge.
 impl Model for Room {
-    ghost Value = { ℕ × ℕ };
+    ghost Value = { List (List Row) × List (List Row) };
 
-    ghost view = { λ r. (vec_len r.invariants.each, vec_len r.guards.each) };
+    ghost view = { λ r. (listed r.invariants, listed r.guards) };
 
-    ghost invariant = { λ r. Blank 64 r.invariants × Blank 512 r.guards };
+    ghost invariant = { λ r. (listed r.invariants ≡ replicate 64 []) × (listed r.guards ≡ replicate 512 []) };
 }
 
 impl Room {
     /// Takes the memory. Nothing else in the making of a flat model can fail.
     pub fn new(heap: Global) -> Result<Room, AllocError>
-        ensures made { IfOk result (λ room. room ≡ (64, 512)) }
+        ensures made { IfOk result (λ room. room ≡ (replicate 64 [], replicate 512 [])) }
     {
         let invariants = Groups::empty(heap, usize::from(MAX_LOCATIONS))?;
         let guards = Groups::empty(heap, usize::from(MAX_SLOTS))?;
