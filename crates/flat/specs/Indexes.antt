@@ -18,7 +18,8 @@ pub record AnswersAs (d : Description) (i : Index) (M : Table) : Type 0 where
   pub edge : (k : ℕ) → slice_get (vec_items d.edges) k ≡ M.edge k
   pub guard : (k : ℕ) → group_at i.guards k ≡ M.guard k
 
--- there is an index exactly where the lists are well-formed, and what answers says what they say
+-- there is an index exactly where the lists are well-formed; it answers as their table does, and without one that table is the
+-- shut model's
 pub record Indexes (d : Description) (o : Option Index) : Type 0 where
   pub well_formed : is_some o ≡ is_well_formed d
   pub answers : MatchOption o (flat_table d ≡ shut_table) (λ i. AnswersAs d i (flat_table d))

@@ -28,7 +28,7 @@ impl Owners {
     }
 
     // Whether the entry is a lawful row of one of the owners.
-    fn admit(self, entry: &AttachedRow) -> bool
+    fn admits(self, entry: &AttachedRow) -> bool
         ensures { Decides result (IsOwned self entry.now) }
     {
         usize::from(entry.owner) < self.count && entry.row.is_lawful(self.clocks, self.parameters)
@@ -60,7 +60,7 @@ impl Groups {
         ensures decides { Decides (is_some result) (IsOwned owners entry.now × HasRoom self.old entry.now.owner) }
         ensures after { Adds (is_some result) entry.now.owner entry.now.row self.old self.new }
     {
-        if !owners.admit(entry) {
+        if !owners.admits(entry) {
             return None;
         }
         self.each

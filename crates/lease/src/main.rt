@@ -8,7 +8,7 @@ mod standing;
 use anyhow::anyhow;
 use report::Formula;
 use rows::Valuation;
-use sentences::report_model;
+use sentences::Report;
 use standing::{Standing, TERM};
 
 // One unit of time is a second, so a value of 1 is a millisecond.
@@ -31,7 +31,11 @@ fn main(rt: HostRuntime) -> anyhow::Result<()> {
     if !model.is_well_formed() {
         return Err(anyhow!("the lists of the lease are not well-formed"));
     }
-    report_model(&rt, &model)?;
+    let report = Report {
+        rt: &rt,
+        model: &model,
+    };
+    report.all()?;
     println!(rt; "The term is {term}: a drawing is kept longer than an editor may take to renew.")?;
     report_setting(&rt, 30_000, 45_000)?;
     report_setting(&rt, 45_000, 45_000)

@@ -1,59 +1,67 @@
-ghost use Rattle.std.specs.Iterator.{IsFinite};
-
 use models::TimedModel;
 use report::Formula;
-use rows::{ClockSet, Row, WAITED};
+use rows::{Row, WAITED};
 
-// Each of these rows behind the word for what it is.
-fn report_rows<I: Iterator<Item = Row>>(rt: &impl Print, word: &str, rows: I) -> anyhow::Result<()>
-    requires can { I.can_next rows }
-    requires ends { IsFinite (I.remaining rows) }
-{
-    for row in rows {
-        let formula = Formula { row };
-        println!(rt; "  {word}: {formula}")?;
-    }
-    Ok(())
+// Prints what a model is, in sentences.
+#[derive(Drop)]
+pub(crate) struct Report<'a, R, M> {
+    pub(crate) rt: &'a R,
+    pub(crate) model: &'a M,
 }
 
-fn report_location<M: TimedModel>(rt: &impl Print, model: &M, location: u8) -> anyhow::Result<()> {
-    let mark = if model.bad(location) { "bad" } else { "good" };
-    println!(rt; "Location {location} is {mark}.")?;
-    let count = model.invariant_count(location);
-    let rows = (0..count).filter_map(|k| model.invariant_row(location, k));
-    report_rows(rt, "invariant", rows)
-}
-
-// The clocks are the marks from 1 up to that of the time waited.
-fn report_resets(rt: &impl Print, resets: &ClockSet) -> anyhow::Result<()> {
-    for clock in (1..WAITED).filter(|&clock| resets.has(clock)) {
-        println!(rt; "  resets clock {clock}")?;
+impl<R: Print, M: TimedModel> Report<'_, R, M> {
+    // So many rows by their number, each behind the word for what it is.
+    fn rows<F: Fn(u8) -> Option<Row>>(&self, word: &str, count: u8, row: F) -> anyhow::Result<()>
+        requires { F.IsAlwaysCallable row }
+    {
+        for row in (0..count).filter_map(row) {
+            let formula = Formula { row };
+            println!(self.rt; "  {word}: {formula}")?;
+        }
+        Ok(())
     }
-    Ok(())
-}
 
-fn report_slot<M: TimedModel>(rt: &impl Print, model: &M, slot: u16) -> anyhow::Result<()> {
-    let Some(edge) = model.edge(slot) else {
-        return Ok(());
-    };
-    println!(rt;
-        "Edge {slot} with action {} leads from location {} to location {}.",
-        edge.action, edge.source, edge.target
-    )?;
-    let count = model.guard_count(slot);
-    let rows = (0..count).filter_map(|k| model.guard_row(slot, k));
-    report_rows(rt, "guard", rows)?;
-    report_resets(rt, &edge.resets)
-}
+    fn location(&self, location: u8) -> anyhow::Result<()> {
+        let mark = if self.model.bad(location) {
+            "bad"
+        } else {
+            "good"
+        };
+        println!(self.rt; "Location {location} is {mark}.")?;
+        let count = self.model.invariant_count(location);
+        self.rows(
+            "invariant",
+            count,
+            |k| self.model.invariant_row(location, k),
+        )
+    }
 
-// The locations of any model with their invariants, and its edges with their guards. A model is asked by number.
-pub(crate) fn report_model<M: TimedModel>(rt: &impl Print, model: &M) -> anyhow::Result<()> {
-    let shape = model.shape();
-    for location in 0..shape.locations {
-        report_location(rt, model, location)?;
+    fn slot(&self, slot: u16) -> anyhow::Result<()> {
+        let Some(edge) = self.model.edge(slot) else {
+            return Ok(());
+        };
+        println!(self.rt;
+            "Edge {slot} with action {} leads from location {} to location {}.",
+            edge.action, edge.source, edge.target
+        )?;
+        let count = self.model.guard_count(slot);
+        self.rows("guard", count, |k| self.model.guard_row(slot, k))?;
+        // the clocks are the marks from 1 up to that of the time waited
+        for clock in (1..WAITED).filter(|&clock| edge.resets.has(clock)) {
+            println!(self.rt; "  resets clock {clock}")?;
+        }
+        Ok(())
     }
-    for slot in 0..shape.slots {
-        report_slot(rt, model, slot)?;
+
+    // The locations with their invariants, and the edges with their guards. A model is asked by number.
+    pub(crate) fn all(&self) -> anyhow::Result<()> {
+        let shape = self.model.shape();
+        for location in 0..shape.locations {
+            self.location(location)?;
+        }
+        for slot in 0..shape.slots {
+            self.slot(slot)?;
+        }
+        Ok(())
     }
-    Ok(())
 }

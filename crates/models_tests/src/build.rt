@@ -1,10 +1,10 @@
 use flat::{AttachedRow, Description, Flat, Location, Room};
 use models::{Edge, Shape, TimedModel};
-use rows::{ClockSet, Row};
+use rows::{ClockSet, MAX_CLOCKS, Row};
 use std::alloc::{AllocError, Global};
 
 pub(crate) const NO_CLOCKS: ClockSet = ClockSet {
-    members: [false; 6],
+    members: [false; MAX_CLOCKS],
 };
 
 // x1 - x0 <= t0 units + t1 p1 + ...

@@ -1,4 +1,4 @@
-use crate::build::*;
+use crate::build::{NO_CLOCKS, edge, flat, owned};
 use flat::{Description, Flat, Location};
 use models::{Shape, TimedModel, has_bad_location};
 use rows::{ClockSet, Row};
@@ -26,8 +26,8 @@ const SILENT: Row = Row {
 };
 
 // An editor renews within p1; after p2 without renewal a second one gets in.
-fn lease(heap: Global) -> Result<Flat, AllocError> {
-    let lists = Description {
+fn lists(heap: Global) -> Result<Description, AllocError> {
+    Ok(Description {
         clocks: 1,
         parameters: 2,
         first: 0,
@@ -35,8 +35,7 @@ fn lease(heap: Global) -> Result<Flat, AllocError> {
         invariants: vec![in heap; owned(0, RENEWED)]?,
         edges: vec![in heap; edge(0, 0, 1, CLOCK_1), edge(0, 1, 0, NO_CLOCKS)]?,
         guards: vec![in heap; owned(1, SILENT)]?,
-    };
-    flat(heap, lists)
+    })
 }
 
 const NUMBERS: Shape = Shape {
@@ -77,28 +76,16 @@ fn has_its_guards(model: &Flat) -> bool {
         && model.guard_row(1, 1).is_none()
 }
 
-fn are_its_lists(lists: Description) -> bool {
-    lists.clocks == 1
-        && lists.parameters == 2
-        && lists.first == 0
-        && lists.locations.len() == 2
-        && lists.invariants.len() == 1
-        && lists.guards.len() == 1
-        && lists.edges.len() == 2
-        && lists.edges.get(1).copied() == Some(edge(0, 1, 0, NO_CLOCKS))
-}
-
 #[test]
 fn every_question(rt: HostRuntime) -> Result<(), Fail> {
-    let model = lease(rt.alloc())?;
-    assert!(rt;
-        model.is_well_formed() && model.shape() == NUMBERS,
-        "numbers"
-    );
+    let heap = rt.alloc();
+    let model = flat(heap, lists(heap)?)?;
+    assert!(rt; model.is_well_formed());
+    assert_eq!(rt; model.shape(), NUMBERS);
     assert!(rt; has_its_marks(&model), "bad locations and used actions");
     assert!(rt; has_its_invariants(&model), "invariants");
     assert!(rt; has_its_edges(&model), "edges");
     assert!(rt; has_its_guards(&model), "guards");
-    assert!(rt; are_its_lists(model.into_lists()), "lists");
+    assert_eq!(rt; model.into_lists(), lists(heap)?);
     Ok(())
 }

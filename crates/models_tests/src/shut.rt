@@ -1,5 +1,4 @@
 use crate::build::*;
-use flat::Flat;
 use models::{Shape, Shut, TimedModel, has_bad_location};
 use std::test::Fail;
 
