@@ -12,6 +12,7 @@ import sys
 
 SOURCES = sorted(pathlib.Path("crates").glob("*/src/*.rt"))
 PROOFS = sorted(p for p in pathlib.Path("crates").glob("*/proofs/**/*.antt") if p.name != "Lib.antt")
+PROOFS += sorted(pathlib.Path("crates").glob("*/specs/*Lemmas.antt"))
 
 
 def lines():
@@ -68,11 +69,22 @@ def twins():
     return found
 
 
+def parameter_list(text):
+    """What stands between the parentheses behind a function's name and its type parameters."""
+    text = text.replace("pub(crate)", "").replace("->", "  ")
+    depth = 0
+    for at, c in enumerate(text):
+        depth += (c == "<") - (c == ">")
+        if c == "(" and depth == 0:
+            return text[at:].split(")", 1)[0]
+    return ""
+
+
 def parameters():
     """Pairs of parameters, by name and type, that stand together in three functions or more."""
     seen = {}
     for place, whole in functions():
-        names = re.findall(r"(\w+): ([^,()]+(?:\([^()]*\))?)", header(whole))
+        names = re.findall(r"(\w+): ([^,()]+)", parameter_list(header(whole)))
         for pair in itertools.combinations(sorted(set((n, t.strip()) for n, t in names)), 2):
             seen.setdefault(pair, []).append(place)
     return [f"{a[0]}: {a[1]}, {b[0]}: {b[1]} in {len(ps)}: " + "; ".join(ps) for (a, b), ps in sorted(seen.items()) if len(ps) >= 3]
