@@ -1,6 +1,5 @@
-ghost use Rattle.std.specs.Prelude.{◌≡◌, ℕ, ◌+◌, ◌≤◌, ◌↔◌, drop, pos, Decides};
+ghost use Rattle.std.specs.Prelude.{◌≡◌, ℕ, ◌+◌, ◌≤◌, drop, pos, Decides};
 ghost use Rattle.std.specs.List.{list_all};
-ghost use Rattle.rows.specs.Points.{Point, Holds};
 ghost use Rattle.rows.specs.Lawful.{LawfulMarks, LawfulBound, Lawful, is_within_limit, is_zero, has_lawful_marks, has_lawful_bound, is_lawful};
 ghost use Rattle.rows.specs.Moves.{Clocks, marks, with_wait, before_reset, after_wait, mark_after_wait, SaysBeforeReset, SaysAfterWait};
 ghost use Rattle.rows.specs.Valuations.{Tells, is_ordered, is_met};
