@@ -46,10 +46,11 @@ module _ (d : Description) where
       let e = (well_formed_decides d).1 w in
       record { well_formed = sym e; answers = subst (AnswersAs d i) (sym (flat_table_described d e)) a }
 
-  -- the index as it was gathered, where its numbers and edges are such as a model may have
+  -- the numbers and edges are such as a model may have
   abbrev Fits : Shape → List Edge → Type 0
   Fits h es = ShapeLimits h × All (EdgeLimits h) es
 
+  -- the index as it was gathered, where b tells whether its numbers and edges are so
   pub made : (b : Bool) (i : Index) (es : List Edge) (r : Option Index) → r ≡ then_some b i → i.shape ≡ shape_of d → es ≡ vec_items d.edges
       → Sorts (owners_in d (length (vec_items d.locations))) (vec_items d.invariants) (Some i.invariants)
       → Sorts (owners_in d (length (vec_items d.edges))) (vec_items d.guards) (Some i.guards)

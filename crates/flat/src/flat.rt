@@ -51,7 +51,7 @@ impl Flat {
         lists
     }
 
-    // What answers: the index of well-formed lists, or none where the model is the shut one.
+    // What answers: the index, or none where the lists are not well-formed and the model is the shut one.
     fn index(&self) -> Option<&Index>
         ensures { Indexes self.now (option_copied result) }
     {

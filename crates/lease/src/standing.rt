@@ -12,7 +12,7 @@ pub(crate) const TERM: Row = Row {
 const PARAMETERS: u8 = 2;
 
 // How a setting stands to the term.
-#[derive(Clone, Copy, Debug, PartialEq, Eq)]
+#[derive(Clone, Copy, Debug, PartialEq, Eq, Hash)]
 pub(crate) enum Standing {
     OutsideLimits,
     Met,

@@ -1,6 +1,6 @@
 use flat::{AttachedRow, Description, Flat, Location, Room};
 use models::{Edge, Shape, TimedModel};
-use rows::{ClockSet, MAX_CLOCKS, Row};
+use rows::{COEFFICIENTS, ClockSet, MAX_CLOCKS, Row};
 use std::alloc::{AllocError, Global};
 
 pub(crate) const NO_CLOCKS: ClockSet = ClockSet {
@@ -8,7 +8,7 @@ pub(crate) const NO_CLOCKS: ClockSet = ClockSet {
 };
 
 // x1 - x0 <= t0 units + t1 p1 + ...
-pub(crate) fn bound(t: [i32; 7]) -> Row {
+pub(crate) fn bound(t: [i32; COEFFICIENTS]) -> Row {
     Row {
         i: 1,
         t,
@@ -89,7 +89,8 @@ pub(crate) fn flat(heap: Global, lists: Description) -> Result<Flat, AllocError>
     Ok(Flat::new(Room::new(heap)?, lists))
 }
 
-// Whether the lists make a model that is not shut, if `model`, or the shut model, if not; and are given back either way.
+// Whether the lists make a model that is not shut, if `model`, or the shut model, if not; and as many edges are given back
+// either way.
 pub(crate) fn gives(heap: Global, lists: Description, model: bool) -> Result<bool, AllocError> {
     let edges = lists.edges.len();
     let made = flat(heap, lists)?;

@@ -26,7 +26,7 @@ const SILENT: Row = Row {
 };
 
 // An editor renews within p1; after p2 without renewal a second one gets in.
-fn lists(heap: Global) -> Result<Description, AllocError> {
+fn lease_lists(heap: Global) -> Result<Description, AllocError> {
     Ok(Description {
         clocks: 1,
         parameters: 2,
@@ -79,13 +79,13 @@ fn has_its_guards(model: &Flat) -> bool {
 #[test]
 fn every_question(rt: HostRuntime) -> Result<(), Fail> {
     let heap = rt.alloc();
-    let model = flat(heap, lists(heap)?)?;
+    let model = flat(heap, lease_lists(heap)?)?;
     assert!(rt; model.is_well_formed());
     assert_eq!(rt; model.shape(), NUMBERS);
     assert!(rt; has_its_marks(&model), "bad locations and used actions");
     assert!(rt; has_its_invariants(&model), "invariants");
     assert!(rt; has_its_edges(&model), "edges");
     assert!(rt; has_its_guards(&model), "guards");
-    assert_eq!(rt; model.into_lists(), lists(heap)?);
+    assert_eq!(rt; model.into_lists(), lease_lists(heap)?);
     Ok(())
 }

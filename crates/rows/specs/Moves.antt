@@ -72,7 +72,7 @@ SaysBeforeReset set r q = (s : Setting) (w : Clocks) → Holds (at s w) q ↔ Ho
 abbrev pub SaysAfterWait : Row → Row → Type 0
 SaysAfterWait r q = r.i ≤ 6 → r.j ≤ 6 → (s : Setting) (w : Clocks) (d : ℕ) → Holds (waited s w d) q ↔ Holds (at s w) r
 
--- the same as tests, for definitions that have to decide
+-- the same as a test, for definitions that have to decide
 
 abbrev pub is_within_clocks : ℕ → ClockSet → Bool
 is_within_clocks m set = list_all not (drop m set.members)

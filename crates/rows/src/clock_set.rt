@@ -17,11 +17,11 @@ impl ClockSet {
     pub fn has(&self, clock: u8) -> bool
         ensures value { result ≡ has self.now clock }
     {
-        let c = usize::from(clock);
-        if !(1..=MAX_CLOCKS).contains(&c) {
-            return false;
-        }
-        self.members[c - 1]
+        usize::from(clock)
+            .checked_sub(1)
+            .and_then(|c| self.members.get(c))
+            .copied()
+            .unwrap_or(false)
     }
 
     // Whether no clock that stands at the place or behind it is in the set.

@@ -24,7 +24,7 @@ pub struct Row {
 /// No coefficient of a lawful row is farther from 0.
 pub const LARGEST_COEFFICIENT: i32 = 1_000_000;
 
-/// The mark that stands for the time waited.
+/// The mark that stands for the time waited: the one behind those of the clocks.
 pub const WAITED: u8 = 7;
 
 fn is_within_limit(z: i32) -> bool

@@ -1,4 +1,4 @@
-use rows::Row;
+use rows::{COEFFICIENTS, Row};
 
 // 0 <= 0 on these marks: no coefficient is there yet.
 pub(crate) fn on(i: u8, j: u8) -> Row {
@@ -10,7 +10,7 @@ pub(crate) fn on(i: u8, j: u8) -> Row {
 }
 
 // A row that asks nothing of the clocks.
-pub(crate) fn term(strict: bool, t: [i32; 7]) -> Row {
+pub(crate) fn term(strict: bool, t: [i32; COEFFICIENTS]) -> Row {
     Row {
         strict,
         t,

@@ -1,4 +1,5 @@
 use crate::build::{on, term};
+use rows::COEFFICIENTS;
 
 #[test]
 fn marks_reach_the_number_of_clocks(rt: HostRuntime) {
@@ -23,7 +24,7 @@ fn marks_differ_or_are_both_0(rt: HostRuntime) {
 }
 
 // Whether a row with these coefficients is lawful where there are so many parameters.
-fn lawful(t: [i32; 7], parameters: u8) -> bool {
+fn lawful(t: [i32; COEFFICIENTS], parameters: u8) -> bool {
     term(false, t).is_lawful(0, parameters)
 }
 
