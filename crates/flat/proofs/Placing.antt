@@ -1,13 +1,13 @@
 -- One entry after the other goes into the group of its owner.
 use Rattle.std.proofs.Common.{◌≡◌, ℕ, ◌+◌, ◌<◌, ◌≤◌, true, false, cond, eqb, List, [], ◌∷◌, ◌++◌, length, get_or, take, All, Decides, vec_len, sym, ap, ◌∙◌, arith}
-use Rattle.std.proofs.lemmas.List.{length_push, nil_from_length, take_all}
+use Rattle.std.proofs.lemmas.List.{length_push, take_all}
 use Rattle.std.proofs.lemmas.Bool.Decides.{nat_tests}
-use Rattle.std.proofs.lemmas.List.Elements.{All-more, All-same, All-nil}
+use Rattle.std.proofs.lemmas.List.Elements.{All-more, All-same}
 use Rattle.flat.specs.declared.description.AttachedRow.{AttachedRow}
 use Rattle.flat.specs.declared.groups.Groups.{Groups}
 use Rattle.flat.specs.declared.groups.Owners.{Owners}
 use Rattle.flat.specs.Lists.{rows_of}
-use Rattle.flat.specs.Groups.{group_at, IsOwned, HasRoom, Adds, Grouped, CanGroup, Blank}
+use Rattle.flat.specs.Groups.{group_at, IsOwned, HasRoom, Adds, Grouped, CanGroup}
 use Rattle.flat.specs.ListsLemmas.{largest_bound, largest_has, rows_of_more, rows_of_next}
 
 module _ (o : Owners) (es : List AttachedRow) where
@@ -17,14 +17,6 @@ module _ (o : Owners) (es : List AttachedRow) where
     pub owned : All (IsOwned o) (take i es)
     pub few : (q : ℕ) → length (group_at gs q) ≤ 8
     pub each : (q : ℕ) → group_at gs q ≡ rows_of q (take i es)
-
-  pub placed_none : (gs : Groups) → Blank o.count gs → Placed 0 gs
-  placed_none gs b = record {
-    wide = b.wide;
-    owned = All-nil (IsOwned o);
-    few = λ q. omega (arith, b.each q);
-    each = λ q. nil_from_length (group_at gs q) (b.each q);
-  }
 
   module _ (i : ℕ) (d : AttachedRow) (l : i < length es) (gs : Groups) (p : Placed i gs) where
     abbrev entry : AttachedRow
