@@ -1,7 +1,7 @@
 -- Where runs stay, and that a table without bad locations avoids them.
 use Rattle.std.specs.List.{list_any, range_with_len}
 use Rattle.std.proofs.lemmas.List.FromFn.{length-range_with_len, get_or-range_with_len}
-use Rattle.std.proofs.Common.{length, get_or, sym, ◌∙◌, subst, arith, ◌≡◌, ℕ, ◌<◌, true, false, Decides, refl, inl, inr}
+use Rattle.std.proofs.Common.{length, get_or, sym, ◌∙◌, subst, arith, ◌≡◌, ℕ, ◌<◌, ◌≤◌, true, false, Decides, refl, inl, inr}
 use Rattle.std.proofs.lemmas.Bool.{both_ways, cases_lt}
 use Rattle.std.proofs.lemmas.Bool.Decides.{Decides-like, Decides-by_or}
 use Rattle.std.proofs.lemmas.List.Elements.{All-nil}
@@ -48,3 +48,13 @@ bad_decides M h =
 -- where none is, no run reaches one
 pub avoids_unless : (M : Table) → Limits M → list_any M.bad (range_with_len 0 M.shape.locations) ≡ false → (s : Setting) → AvoidsBad M s
 avoids_unless M l n s x r k = both_ways (list_any M.bad (range_with_len 0 M.shape.locations)) n ((bad_decides M l).1 (x.location, k))
+
+-- no location up to the last is bad, so none is
+pub none_bad : (M : Table) (n : ℕ) → Limits M → M.shape.locations ≤ n → ((k : ℕ) → k < n → M.bad k ≡ false) → (q : ℕ) → M.bad q ≡ false
+none_bad M n h e f q = elim (cases_lt q n) [ inl l ↦ f q l | inr g ↦ h.no_bad q (omega arith) ]
+
+pub decides_none : (M : Table) → ((q : ℕ) → M.bad q ≡ false) → Decides false (HasBad M)
+decides_none M f = (λ e. absurd (both_ways false refl e), λ b. absurd (both_ways (M.bad b.0) (f b.0) b.1))
+
+pub avoids_none : (M : Table) → ((q : ℕ) → M.bad q ≡ false) → (s : Setting) → AvoidsBad M s
+avoids_none M f s x r e = both_ways (M.bad x.location) (f x.location) e

@@ -1,11 +1,16 @@
 -- Sets of clocks, and what the replaced rows say.
-use Rattle.std.proofs.Common.{◌≡◌, ℕ, zero, suc, ◌+◌, ◌≤◌, Bool, true, false, cond, eqb, ◌↔◌, refl, ap, arith}
+use Rattle.std.proofs.Common.{◌≡◌, ℕ, zero, suc, ◌+◌, ◌<◌, ◌≤◌, Bool, true, false, cond, eqb, ◌↔◌, length, refl, ap, arith}
+use Rattle.std.proofs.lemmas.List.{get_or_past}
 use Rattle.std.proofs.lemmas.Bool.{ne_eqb, eqb-true, cond-false, cond_both}
 use Rattle.rows.specs.declared.row.Row.{Row}
 use Rattle.rows.specs.declared.clock_set.ClockSet.{ClockSet}
 use Rattle.rows.specs.Points.{Setting, Holds}
 use Rattle.rows.specs.Moves.{Clocks, has, marks, at, after_reset, later, with_wait, waited, mark_before_reset, before_reset, mark_after_wait, after_wait, SaysBeforeReset, SaysAfterWait}
 use Rattle.rows.proofs.Points.{with_marks, holds_like}
+
+pub has_past : (set : ClockSet) (c : ℕ) → length set.members < c → has set c ≡ false
+has_past set zero h = refl
+has_past set (suc c) h = get_or_past set.members c false (omega arith)
 
 -- the mark read before the reset is the mark after it
 mark_reset : (set : ClockSet) (w : Clocks) (c : ℕ) → marks w (mark_before_reset set c) ≡ marks (after_reset set w) c
@@ -36,10 +41,15 @@ mark_waited : (w : Clocks) (d c : ℕ) → c ≤ 6 → marks (with_wait w d) (ma
 mark_waited w d zero h = omega arith
 mark_waited w d (suc c) h = waited_clock w d (suc c) h
 
+-- for rows with equal marks too
+pub says_with_wait : (r : Row) → SaysAfterWait r (with_marks r (mark_after_wait r.i) (mark_after_wait r.j))
+says_with_wait r i j s w d =
+    holds_like r (mark_after_wait r.i) (mark_after_wait r.j) (waited s w d) (at s w) refl (omega (arith, mark_waited w d r.i i, mark_waited w d r.j j))
+
 pub says_after_wait : (r : Row) → SaysAfterWait r (after_wait r)
 says_after_wait r i j s w d =
     let p = waited s w d in
     let q = at s w in
     cond_both (eqb r.i r.j) r (with_marks r (mark_after_wait r.i) (mark_after_wait r.j)) (λ x. Holds p x ↔ Holds q r)
     (λ e. let k = eqb-true r.i r.j e in holds_like r r.i r.j p q refl (omega (arith, ap (marks w) k, ap (marks (with_wait w d)) k)))
-    (λ e. holds_like r (mark_after_wait r.i) (mark_after_wait r.j) p q refl (omega (arith, mark_waited w d r.i i, mark_waited w d r.j j)))
+    (λ _. says_with_wait r i j s w d)

@@ -1,5 +1,5 @@
-ghost use Rattle.std.specs.Prelude.{◌≡◌, not, drop, Decides};
-ghost use Rattle.std.specs.List.{list_all};
+ghost use Rattle.std.specs.Prelude.{◌≡◌, not, ◌||◌, drop, Decides, nat_lt};
+ghost use Rattle.std.specs.List.{list_all, enumerate_from};
 ghost use Rattle.rows.specs.Moves.{Clocks, marks, has, WithinClocks, is_within_clocks, after_reset, mark_before_reset};
 
 /// The most clocks that a model may have.
@@ -17,18 +17,30 @@ impl ClockSet {
     pub fn has(&self, clock: u8) -> bool
         ensures value { result ≡ has self.now clock }
     {
-        usize::from(clock)
-            .checked_sub(1)
-            .and_then(|c| self.members.get(c))
+        // For clock 0 the place wraps past the end.
+        self.members
+            .get(usize::from(clock).wrapping_sub(1))
             .copied()
             .unwrap_or(false)
     }
 
+    // Whether every clock of the set stands before the place. Each member is asked: behind a `skip` the compiler would not unroll
+    // the chain.
+    fn has_only_before(&self, place: usize) -> bool
+        ensures value { result ≡ list_all (λ p. not p.1 || nat_lt p.0 place) (enumerate_from 0 self.now.members) }
+    {
+        self.members
+            .iter()
+            .enumerate()
+            .all(|(c, member)| !member || c < place)
+    }
+
     // Whether no clock that stands at the place or behind it is in the set.
+    #[tactic(auto, using(crate::proofs::Places::from_place))]
     fn has_none_from(&self, place: usize) -> bool
         ensures value { result ≡ list_all not (drop place self.now.members) }
     {
-        self.members.iter().skip(place).all(|member| !member)
+        self.has_only_before(place)
     }
 
     /// Whether every clock of the set is one of the first `clocks` clocks.
