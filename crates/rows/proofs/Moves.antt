@@ -41,7 +41,7 @@ mark_waited : (w : Clocks) (d c : ℕ) → c ≤ 6 → marks (with_wait w d) (ma
 mark_waited w d zero h = omega arith
 mark_waited w d (suc c) h = waited_clock w d (suc c) h
 
--- for rows with equal marks too
+-- a row with mark 0 replaced in both places holds after the wait as it held before, also where its marks are equal
 pub says_with_wait : (r : Row) → SaysAfterWait r (with_marks r (mark_after_wait r.i) (mark_after_wait r.j))
 says_with_wait r i j s w d =
     holds_like r (mark_after_wait r.i) (mark_after_wait r.j) (waited s w d) (at s w) refl (omega (arith, mark_waited w d r.i i, mark_waited w d r.j j))
